@@ -1,0 +1,3 @@
+pub mod Repeated
+pub mod Tables
+pub mod Shown

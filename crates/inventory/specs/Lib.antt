@@ -1,0 +1,10 @@
+pub mod Meaning
+pub mod Keyset
+pub mod KeysetLaws
+pub mod Capped
+pub mod CappedLaws
+pub mod Paired
+pub mod PairedLaws
+pub mod Barren
+pub mod Families
+pub mod Laws
