@@ -1,6 +1,8 @@
 // Keys: a set of the codes 0 to 31.
 ghost use Prim.Native.Nat.{ℕ, _<_, _≤_};
 ghost use mathlib.Core.Path.{_≡_};
+ghost use mathlib.Core.Bool.{false};
+ghost use lib.ListN.{replicate};
 ghost use Rattle.inventory.specs.Keyset.{keys, members, «set-of»};
 ghost use Rattle.inventory.specs.KeysetLaws.{«keys-lawful»};
 use crate::Inventory;
@@ -10,13 +12,19 @@ pub struct Keys {
     has: [bool; 32],
 }
 
+fn none() -> [bool; 32]
+    ensures { λ r. ⌜ r ≡ replicate 32 false ⌝ }
+{
+    [false; 32]
+}
+
 impl Keys {
     // Whether the code is a member.
     pub fn contains(&self, code: u16) -> bool
         ensures { λ r. ⌜ r ≡ «set-of» (now (self .entry) .has) code ⌝ }
     {
         let i = code as usize;
-        i < 32 && self.has[i]
+        if i < 32 { self.has[i] } else { false }
     }
 
     // How many codes are members.
@@ -41,7 +49,7 @@ pub impl Inventory for Keys as KeysInventory {
     ghost lawful = { «keys-lawful» };
 
     fn empty() -> Keys {
-        Keys { has: [false; 32] }
+        Keys { has: none() }
     }
 
     fn add(&mut self, code: u16) {

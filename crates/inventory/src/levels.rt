@@ -1,7 +1,7 @@
 // A level for each of the codes 0 to 31, up to a top: counts and tiers.
 ghost use Prim.Native.Nat.{ℕ, _<_, _≤_};
 ghost use mathlib.Core.Path.{_≡_};
-ghost use lib.ListN.{getD};
+ghost use lib.ListN.{getD, replicate};
 ghost use Rattle.inventory.specs.Capped.{levels, «up-to», «levels-of», «sum-of-levels»};
 ghost use Rattle.inventory.specs.CappedLaws.{«levels-lawful»};
 use crate::Inventory;
@@ -17,6 +17,12 @@ pub type Counts = Levels<999>;
 
 // Items that improve: a sword, forged again.
 pub type Tiers = Levels<4>;
+
+fn zeros() -> [u16; 32]
+    ensures { λ r. ⌜ r ≡ replicate 32 0 ⌝ }
+{
+    [0; 32]
+}
 
 impl<const TOP: u16> Levels<TOP> {
     // The code's level.
@@ -47,7 +53,7 @@ pub impl<const TOP: u16> Inventory for Levels<TOP> as LevelsInventory {
     ghost lawful = { «levels-lawful» («up-to» TOP) };
 
     fn empty() -> Levels<TOP> {
-        Levels { level: [0; 32] }
+        Levels { level: zeros() }
     }
 
     fn add(&mut self, code: u16) {

@@ -1,7 +1,8 @@
-use mathlib.Core.Path.{fun-ext}
+use mathlib.Core.Path.{ap, fun-ext, _∙_}
 use mathlib.Core.Bool.{false}
+use Rattle.inventory.specs.Keyset.{set-of}
 use Rattle.inventory.proofs.Repeated.{getD-repeated}
 use Rattle.inventory.proofs.keys.KeysInventory.empty.Needs as need
 
 pub returns : need.returns
-returns c = fun-ext (λ code. getD-repeated 32 code false)
+returns c = ap set-of (c .none .ensures) ∙ fun-ext (λ code. getD-repeated 32 code false)

@@ -1,0 +1,5 @@
+pub mod Source
+pub mod Xorshift
+pub mod Tapes
+pub mod Refusals
+pub mod Dealing

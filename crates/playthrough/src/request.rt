@@ -1,0 +1,184 @@
+// What the program is asked to deal: a source, and the items in the order of the input.
+use crate::fault::Fault;
+use crate::fault::What;
+use crate::fault::WhatFromRefused;
+use crate::item::Item;
+use draw::BadSource;
+use draw::Seeded;
+use inventory::Family;
+use std::alloc::Global;
+
+#[derive(Drop)]
+pub enum Chosen {
+    Seed(Seeded),
+    Numbers(Vec<u16>),
+}
+
+#[derive(Drop)]
+pub struct Request {
+    pub source: Chosen,
+    pub items: Vec<Item>,
+}
+
+// A number in digits alone.
+fn number(word: &str) -> Result<u64, What> {
+    if word.starts_with('+') {
+        return Err(What::NotANumber);
+    }
+    match word.parse::<u64>() {
+        Ok(number) => Ok(number),
+        Err(_) => Err(What::NotANumber),
+    }
+}
+
+fn numbers(heap: Global, words: &str) -> Result<Vec<u16>, What> {
+    let mut numbers = Vec::new(heap);
+    for word in words.split(' ') {
+        match u16::try_from(number(word)?) {
+            Ok(number) => numbers.push(number)?,
+            Err(_) => return Err(What::NotANumber),
+        }
+        if numbers.len() > 512 {
+            return Err(What::NoSuchSource(BadSource::LongTape));
+        }
+    }
+    Ok(numbers)
+}
+
+fn seed(word: &str) -> Result<Seeded, What> {
+    match Seeded::new(number(word)?) {
+        Ok(seeded) => Ok(seeded),
+        Err(why) => Err(What::NoSuchSource(why)),
+    }
+}
+
+fn source(heap: Global, line: &str) -> Result<Chosen, What> {
+    let Some((name, words)) = line.split_once(' ') else {
+        return Err(What::NoSource);
+    };
+    match name {
+        "seed" => Ok(Chosen::Seed(seed(words)?)),
+        "tape" => Ok(Chosen::Numbers(numbers(heap, words)?)),
+        _ => Err(What::NoSource),
+    }
+}
+
+fn item(line: &str) -> Result<Item, What> {
+    let Some((name, word)) = line.split_once(' ') else {
+        return Err(What::NotAnItem);
+    };
+    let family = match name {
+        "key" => Family::Key,
+        "count" => Family::Count,
+        "tier" => Family::Tier,
+        _ => return Err(What::NoSuchFamily),
+    };
+    let number = number(word)?;
+    if number >= 32 {
+        return Err(What::NoSuchKind);
+    }
+    Ok(Item {
+        family,
+        number: number as u8,
+    })
+}
+
+fn put_line(items: &mut Vec<Item>, line: &str) -> Result<(), What> {
+    let item = item(line)?;
+    if items.len() >= 256 {
+        return Err(What::TooManyItems);
+    }
+    items.push(item)?;
+    Ok(())
+}
+
+fn read_text(heap: Global, text: &str) -> Result<Request, Fault> {
+    let mut lines = text.lines();
+    let Some(first) = lines.next() else {
+        return Err(Fault {
+            line: 1,
+            what: What::NoSource,
+        });
+    };
+    let source = match source(heap, first) {
+        Ok(source) => source,
+        Err(what) => return Err(Fault { line: 1, what }),
+    };
+    let mut items = Vec::new(heap);
+    let mut number = 1usize;
+    for line in lines {
+        number = number.saturating_add(1);
+        if let Err(what) = put_line(&mut items, line) {
+            return Err(Fault { line: number, what });
+        }
+    }
+    Ok(Request { source, items })
+}
+
+// Reads an input whole, or says what is wrong with it first.
+pub fn read(heap: Global, bytes: &[u8]) -> Result<Request, Fault> {
+    match std::str::from_utf8(bytes) {
+        Ok(text) => read_text(heap, text),
+        Err(_) => Err(Fault {
+            line: 0,
+            what: What::NotText,
+        }),
+    }
+}
+
+#[cfg(test)]
+mod tests {
+    use super::*;
+    use crate::fault::FaultDebug;
+    use crate::fault::FaultPartialEq;
+    use std::test::*;
+
+    fn fault_of(heap: Global, text: &str) -> Option<Fault> {
+        match read(heap, text.as_bytes()) {
+            Ok(_) => None,
+            Err(fault) => Some(fault),
+        }
+    }
+
+    fn at(line: usize, what: What) -> Option<Fault> {
+        Some(Fault { line, what })
+    }
+
+    #[test]
+    fn a_bad_input_is_told_with_its_line(rt: LibcRuntime) -> Result<(), Fail> {
+        let heap = rt.alloc();
+        check_eq(fault_of(heap, ""), at(1, What::NoSource))?;
+        check_eq(fault_of(heap, "key 3\n"), at(1, What::NoSource))?;
+        check_eq(
+            fault_of(heap, "seed 0\n"),
+            at(1, What::NoSuchSource(BadSource::ZeroSeed)),
+        )?;
+        check_eq(fault_of(heap, "seed +1\n"), at(1, What::NotANumber))?;
+        check_eq(fault_of(heap, "tape 1 65536\n"), at(1, What::NotANumber))?;
+        check_eq(fault_of(heap, "seed 1\nkey\n"), at(2, What::NotAnItem))?;
+        check_eq(
+            fault_of(heap, "seed 1\nkey 1\ncoin 1\n"),
+            at(3, What::NoSuchFamily),
+        )?;
+        check_eq(fault_of(heap, "seed 1\ntier 32\n"), at(2, What::NoSuchKind))?;
+        check_eq(
+            fault_of(heap, "seed 1\ntier one\n"),
+            at(2, What::NotANumber),
+        )?;
+        check_eq(fault_of(heap, "tape 0 1\nkey 31\n"), None)
+    }
+
+    #[test]
+    fn bytes_that_are_no_text_are_told(rt: LibcRuntime) -> Result<(), Fail> {
+        match read(rt.alloc(), &[255]) {
+            Ok(_) => Err(Fail::new("accepted")),
+            Err(fault) => check_eq(
+                fault,
+                Fault {
+                    line: 0,
+                    what: What::NotText,
+                },
+            ),
+        }
+    }
+}

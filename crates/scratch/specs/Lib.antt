@@ -1,0 +1,4 @@
+pub mod Held
+pub mod Bytes
+pub mod Marks
+pub mod Example

@@ -1,0 +1,8 @@
+// Memory that a caller lends: a stack over a borrowed slice, and the work marks.
+pub mod example;
+mod marks;
+mod stack;
+
+pub use marks::Marks;
+pub use marks::WORK_MARKS;
+pub use stack::Stack;
