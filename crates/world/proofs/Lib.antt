@@ -1,2 +1,2 @@
-pub mod Tests
 pub mod Known
+pub mod Tables

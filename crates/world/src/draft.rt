@@ -1,7 +1,7 @@
 // A world in the making: tables that fit together, with room for every limit.
 ghost use Prim.Native.Nat.{ℕ, _≤_, _<_};
 ghost use mathlib.Core.Path.{_≡_};
-ghost use mathlib.Core.Bool.{true};
+ghost use lib.Dec.{T};
 ghost use lib.ListN.{length, getD};
 ghost use Rattle.std.specs.Of.Vec.{vec-items, vec-cap};
 ghost use Rattle.std.specs.shelf.Lists.{countBy};
@@ -39,11 +39,11 @@ pub struct Draft {
     ghost few_items: { length (vec-items pool) ≤ 256 },
     ghost small_stock: { length (vec-items stock) ≤ 32 },
     ghost counted: { «words-of» (vec-items gates) (vec-items places) goal ≡ length (vec-items words) },
-    ghost gates_lead: { every («gate-sound» regions (vec-items kinds) (vec-items words)) (vec-items gates) ≡ true },
-    ghost places_lie: { every («place-sound» regions (vec-items kinds) (vec-items words)) (vec-items places) ≡ true },
-    ghost goal_kept: { «goal-sound» (vec-items kinds) (vec-items words) goal ≡ true },
-    ghost pool_known: { every («of-kinds» (vec-items kinds)) (vec-items pool) ≡ true },
-    ghost stock_known: { every («of-kinds» (vec-items kinds)) (vec-items stock) ≡ true },
+    ghost gates_lead: { T (every («gate-sound» regions (vec-items kinds) (vec-items words)) (vec-items gates)) },
+    ghost places_lie: { T (every («place-sound» regions (vec-items kinds) (vec-items words)) (vec-items places)) },
+    ghost goal_kept: { T («goal-sound» (vec-items kinds) (vec-items words) goal) },
+    ghost pool_known: { T (every («of-kinds» (vec-items kinds)) (vec-items pool)) },
+    ghost stock_known: { T (every («of-kinds» (vec-items kinds)) (vec-items stock)) },
     ghost a_chain_each: { length (vec-items latest) ≡ regions },
     ghost chains_start: { (r : ℕ) → r < regions → getD (vec-items latest) r 0 ≡ «last-leaving» (vec-items gates) r (length (vec-items gates)) },
     ghost chains_go_on: { (k : ℕ) → k < length (vec-items gates) → «earlier-at» (vec-items gates) k ≡ «last-leaving» (vec-items gates) («near-at» (vec-items gates) k) k },

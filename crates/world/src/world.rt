@@ -1,7 +1,6 @@
 // A world: a draft with a region at least and a goal.
 ghost use Prim.Native.Nat.{_≤_};
-ghost use mathlib.Core.Path.{_≡_};
-ghost use mathlib.Core.Bool.{true};
+ghost use lib.Dec.{T};
 ghost use Rattle.std.specs.Of.Vec.{vec-items};
 ghost use Rattle.world.specs.Rows.{«rule-sound»};
 use crate::draft::Draft;
@@ -12,5 +11,5 @@ mod reads;
 pub struct World {
     made: Draft,
     ghost some_region: { 1 ≤ made .regions },
-    ghost goal_proper: { «rule-sound» (vec-items (made .kinds)) (vec-items (made .words)) (made .goal) ≡ true },
+    ghost goal_proper: { T («rule-sound» (vec-items (made .kinds)) (vec-items (made .words)) (made .goal)) },
 }
