@@ -4,7 +4,7 @@ use mathlib.Core.Bool.{_&&_}
 use mathlib.Core.List.{List}
 use lib.Dec.{T, ltb}
 use Prim.Native.Nat.{ℕ, _<_}
-use Rattle.std.specs.Of.Vec.{vec-items}
+use Rattle.world.specs.Listed.{listed}
 use Rattle.std.specs.shelf.Lists.{All}
 use Rattle.model.specs.declared.rule_word.RuleWord.{RuleWord}
 use Rattle.model.specs.Rules.{formed}
@@ -23,10 +23,10 @@ sound-formed kinds table part t = rule-facts kinds (words table part) (and-both 
 
 module _ (w : World) where
   abbrev kinds : List ℕ
-  kinds = vec-items (w .made .kinds)
+  kinds = listed (w .made .kinds)
 
   abbrev table : List RuleWord
-  table = vec-items (w .made .words)
+  table = listed (w .made .words)
 
   known-gate : (g : Gate) → T (gate-sound (w .made .regions) kinds table g) → Known-gate w g
   unfolding draft-of world-of rule-at gateway
@@ -41,8 +41,8 @@ module _ (w : World) where
       let p = and-both (ltb (q .region) (w .made .regions)) _ t in
       record { region-known = leb→le _ _ (p .0); rule-formed = sound-formed kinds table (q .rule) (p .1); stands-for = refl }
 
-  pub known-gates : All (Known-gate w) (vec-items (w .made .gates))
-  known-gates = every-all (gate-sound (w .made .regions) kinds table) (Known-gate w) known-gate (vec-items (w .made .gates)) (w .made .«gates_lead»)
+  pub known-gates : All (Known-gate w) (listed (w .made .gates))
+  known-gates = every-all (gate-sound (w .made .regions) kinds table) (Known-gate w) known-gate (listed (w .made .gates)) (w .made .«gates_lead»)
 
-  pub known-places : All (Known-place w) (vec-items (w .made .places))
-  known-places = every-all (place-sound (w .made .regions) kinds table) (Known-place w) known-place (vec-items (w .made .places)) (w .made .«places_lie»)
+  pub known-places : All (Known-place w) (listed (w .made .places))
+  known-places = every-all (place-sound (w .made .regions) kinds table) (Known-place w) known-place (listed (w .made .places)) (w .made .«places_lie»)

@@ -6,7 +6,7 @@ use lib.Dec.{T, ltb, leb→le, eqb}
 use lib.ListN.{length, take, drop, length-take, length-drop, length-map}
 use Prim.Native.Nat.{ℕ, _+_, _<_, _≤_}
 use native.Mathlib.Omega.{arith}
-use Rattle.std.specs.Of.Vec.{vec-items}
+use Rattle.world.specs.Listed.{listed}
 use Rattle.std.specs.shelf.Lists.{All, sumBy}
 use Rattle.std.proofs.shelf.Tests.{cond-true}
 use Rattle.std.proofs.shelf.Sums.{sumBy-cons}
@@ -57,10 +57,10 @@ module _ (regions : ℕ) (kinds : List ℕ) (table : List RuleWord) where
       (length-words table goal c)
 
 module _ (w : World) where
-  goal-inside : T (inside (vec-items (w .made .words)) (w .made .goal))
-  goal-inside = and-both (inside (vec-items (w .made .words)) (w .made .goal)) _ (w .«goal_proper») .0
+  goal-inside : T (inside (listed (w .made .words)) (w .made .goal))
+  goal-inside = and-both (inside (listed (w .made .words)) (w .made .goal)) _ (w .«goal_proper») .0
 
-  gate-proper : (g : Gate) → T (gate-sound (w .made .regions) (vec-items (w .made .kinds)) (vec-items (w .made .words)) g) → Proper-gate (world-of w) (gate-of (vec-items (w .made .words)) g)
+  gate-proper : (g : Gate) → T (gate-sound (w .made .regions) (listed (w .made .kinds)) (listed (w .made .words)) g) → Proper-gate (world-of w) (gate-of (listed (w .made .words)) g)
   unfolding draft-of world-of
   gate-proper g t =
       let p = and-both (ltb (g .near) (w .made .regions)) _ t in
@@ -68,21 +68,21 @@ module _ (w : World) where
       record {
         near-known = leb→le _ _ (p .0);
         far-known = leb→le _ _ (q .0);
-        rule-proper = rule-facts _ _ (and-both (inside (vec-items (w .made .words)) (g .rule)) _ (q .1) .1);
+        rule-proper = rule-facts _ _ (and-both (inside (listed (w .made .words)) (g .rule)) _ (q .1) .1);
       }
 
-  place-proper : (q : Place) → T (place-sound (w .made .regions) (vec-items (w .made .kinds)) (vec-items (w .made .words)) q) → Proper-place (world-of w) (place-of (vec-items (w .made .words)) q)
+  place-proper : (q : Place) → T (place-sound (w .made .regions) (listed (w .made .kinds)) (listed (w .made .words)) q) → Proper-place (world-of w) (place-of (listed (w .made .words)) q)
   unfolding draft-of world-of
   place-proper q t =
       let p = and-both (ltb (q .region) (w .made .regions)) _ t in
       record {
         region-known = leb→le _ _ (p .0);
-        rule-proper = rule-facts _ _ (and-both (inside (vec-items (w .made .words)) (q .rule)) _ (p .1) .1);
+        rule-proper = rule-facts _ _ (and-both (inside (listed (w .made .words)) (q .rule)) _ (p .1) .1);
       }
 
-  pub words-total : words-in (world-of w) ≡ length (vec-items (w .made .words))
+  pub words-total : words-in (world-of w) ≡ length (listed (w .made .words))
   unfolding draft-of world-of
-  words-total = words-counted (w .made .regions) (vec-items (w .made .kinds)) _ _ _ _ (w .made .«gates_lead») (w .made .«places_lie») goal-inside ∙ w .made .counted
+  words-total = words-counted (w .made .regions) (listed (w .made .kinds)) _ _ _ _ (w .made .«gates_lead») (w .made .«places_lie») goal-inside ∙ w .made .counted
 
   few-of : (f : Family) → kinds-of (world-of w) f ≤ 32
   unfolding draft-of world-of
@@ -94,19 +94,19 @@ module _ (w : World) where
   unfolding draft-of world-of
   facts = record {
     some-region = w .«some_region»;
-    few-regions = w .made .«few_regions»;
-    few-gates = simp length-map (w .made .«few_gates»);
-    few-places = simp length-map (w .made .«few_places»);
-    few-items = w .made .«few_items»;
-    small-stock = w .made .«small_stock»;
-    few-kinds = w .made .«few_kinds»;
+    few-regions = omega (arith, w .made .latest .few, w .made .«a_chain_each»);
+    few-gates = simp length-map (w .made .gates .few);
+    few-places = simp length-map (w .made .places .few);
+    few-items = w .made .pool .few;
+    small-stock = w .made .stock .few;
+    few-kinds = w .made .kinds .few;
     few-of-family = few-of;
-    few-words = omega (arith, words-total, w .made .«few_words»);
-    gates-lead = all-map (Proper-gate (world-of w)) (gate-of (vec-items (w .made .words))) (vec-items (w .made .gates)) (every-all _ _ gate-proper (vec-items (w .made .gates)) (w .made .«gates_lead»));
-    places-lie = all-map (Proper-place (world-of w)) (place-of (vec-items (w .made .words))) (vec-items (w .made .places)) (every-all _ _ place-proper (vec-items (w .made .places)) (w .made .«places_lie»));
-    goal-proper = rule-facts _ _ (and-both (inside (vec-items (w .made .words)) (w .made .goal)) _ (w .«goal_proper») .1);
-    pool-known = every-all _ _ (λ code t. t) (vec-items (w .made .pool)) (w .made .«pool_known»);
-    stock-known = every-all _ _ (λ code t. t) (vec-items (w .made .stock)) (w .made .«stock_known»);
+    few-words = omega (arith, words-total, w .made .words .few);
+    gates-lead = all-map (Proper-gate (world-of w)) (gate-of (listed (w .made .words))) (listed (w .made .gates)) (every-all _ _ gate-proper (listed (w .made .gates)) (w .made .«gates_lead»));
+    places-lie = all-map (Proper-place (world-of w)) (place-of (listed (w .made .words))) (listed (w .made .places)) (every-all _ _ place-proper (listed (w .made .places)) (w .made .«places_lie»));
+    goal-proper = rule-facts _ _ (and-both (inside (listed (w .made .words)) (w .made .goal)) _ (w .«goal_proper») .1);
+    pool-known = every-all _ _ (λ code t. t) (listed (w .made .pool)) (w .made .«pool_known»);
+    stock-known = every-all _ _ (λ code t. t) (listed (w .made .stock)) (w .made .«stock_known»);
   }
 
   pub is-proper : T (proper (world-of w))

@@ -4,7 +4,7 @@ use mathlib.Core.List.{List, map}
 use Prim.Native.Nat.{ℕ, _<_, _≤_}
 use lib.Dec.{T}
 use lib.ListN.{length}
-use Rattle.std.specs.Of.Vec.{vec-items}
+use Rattle.world.specs.Listed.{listed}
 use Rattle.model.specs.declared.rule_word.RuleWord.{RuleWord}
 use Rattle.model.specs.Rules.{formed}
 use Rattle.model.specs.Worlds.{World as Atlas, Gate as Gateway, Place as Spot}
@@ -17,7 +17,7 @@ use Rattle.world.specs.Rows.{words, gate-of, place-of, atlas, near-at, earlier
 
 -- the world that a draft stands for; its goal has no words until it is set
 unfoldable pub draft-of : Draft → Atlas
-draft-of d = atlas (d .regions) (vec-items (d .kinds)) (vec-items (d .gates)) (vec-items (d .places)) (vec-items (d .words)) (vec-items (d .pool)) (vec-items (d .stock)) (d .goal)
+draft-of d = atlas (d .regions) (listed (d .kinds)) (listed (d .gates)) (listed (d .places)) (listed (d .words)) (listed (d .pool)) (listed (d .stock)) (d .goal)
 
 -- the world that a record stands for
 unfoldable pub world-of : World → Atlas
@@ -25,17 +25,17 @@ world-of w = draft-of (w .made)
 
 -- the words of a rule, and what a row stands for
 unfoldable pub rule-at : World → Part → List RuleWord
-rule-at w part = words (vec-items (w .made .words)) part
+rule-at w part = words (listed (w .made .words)) part
 
 unfoldable pub gateway : World → Gate → Gateway
-gateway w g = gate-of (vec-items (w .made .words)) g
+gateway w g = gate-of (listed (w .made .words)) g
 
 unfoldable pub spot : World → Place → Spot
-spot w q = place-of (vec-items (w .made .words)) q
+spot w q = place-of (listed (w .made .words)) q
 
 -- the rows of the gates, in order
 unfoldable pub gate-rows : World → List Gate
-gate-rows w = vec-items (w .made .gates)
+gate-rows w = listed (w .made .gates)
 
 -- a gate of the world: its regions are the world's, and its rule is well formed
 pub record Known-gate (w : World) (g : Gate) : Type 0 where

@@ -2,6 +2,8 @@
 mod draft;
 mod refusal;
 mod rows;
+mod rules;
+mod table;
 mod world;
 
 pub use draft::Draft;
@@ -12,4 +14,6 @@ pub use refusal::BuildRefusalPartialEq;
 pub use rows::Gate;
 pub use rows::Part;
 pub use rows::Place;
+pub use rules::is_formed;
+pub use rules::weigh;
 pub use world::World;

@@ -1,7 +1,7 @@
 // A world: a draft with a region at least and a goal.
 ghost use Prim.Native.Nat.{_≤_};
 ghost use lib.Dec.{T};
-ghost use Rattle.std.specs.Of.Vec.{vec-items};
+ghost use Rattle.world.specs.Listed.{listed};
 ghost use Rattle.world.specs.Rows.{«rule-sound»};
 use crate::draft::Draft;
 
@@ -11,5 +11,5 @@ mod reads;
 pub struct World {
     made: Draft,
     ghost some_region: { 1 ≤ made .regions },
-    ghost goal_proper: { T («rule-sound» (vec-items (made .kinds)) (vec-items (made .words)) (made .goal)) },
+    ghost goal_proper: { T («rule-sound» (listed (made .kinds)) (listed (made .words)) (made .goal)) },
 }

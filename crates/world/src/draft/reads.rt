@@ -3,7 +3,7 @@ ghost use mathlib.Core.Path.{_≡_};
 ghost use mathlib.Core.Bool.{cond};
 ghost use Prim.Native.Nat.{ℕ, _<_, _≤_};
 ghost use lib.ListN.{length, getD};
-ghost use Rattle.std.specs.Of.Vec.{vec-items};
+ghost use Rattle.world.specs.Listed.{listed};
 ghost use Rattle.world.specs.Rows.{words};
 use super::Draft;
 use crate::rows::Gate;
@@ -20,44 +20,40 @@ impl Draft {
 
     // The codes of the kinds, in order.
     pub fn kinds(&self) -> &[u16]
-        ensures { λ r. ⌜ now r ≡ vec-items (now (self .entry) .kinds) ⌝ }
+        ensures { λ r. ⌜ now r ≡ listed (now (self .entry) .kinds) ⌝ }
     {
         self.kinds.as_slice()
     }
 
     pub fn gates(&self) -> &[Gate]
-        ensures { λ r. ⌜ now r ≡ vec-items (now (self .entry) .gates) ⌝ }
+        ensures { λ r. ⌜ now r ≡ listed (now (self .entry) .gates) ⌝ }
     {
         self.gates.as_slice()
     }
 
     // The number, counted from 1, of the last gate that leaves a region; 0 where there is none.
     pub fn last_gate(&self, region: usize) -> u16
-        ensures { λ r. ⌜ r ≡ getD (vec-items (now (self .entry) .latest)) region 0 ⌝ }
+        ensures { λ r. ⌜ r ≡ getD (listed (now (self .entry) .latest)) region 0 ⌝ }
     {
-        if region < self.latest.len() {
-            self.latest[region]
-        } else {
-            0
-        }
+        self.latest.get_or(region, 0)
     }
 
     pub fn places(&self) -> &[Place]
-        ensures { λ r. ⌜ now r ≡ vec-items (now (self .entry) .places) ⌝ }
+        ensures { λ r. ⌜ now r ≡ listed (now (self .entry) .places) ⌝ }
     {
         self.places.as_slice()
     }
 
     // The codes of the pool's items, in order.
     pub fn pool(&self) -> &[u16]
-        ensures { λ r. ⌜ now r ≡ vec-items (now (self .entry) .pool) ⌝ }
+        ensures { λ r. ⌜ now r ≡ listed (now (self .entry) .pool) ⌝ }
     {
         self.pool.as_slice()
     }
 
     // The codes of the stock's items, in order.
     pub fn stock(&self) -> &[u16]
-        ensures { λ r. ⌜ now r ≡ vec-items (now (self .entry) .stock) ⌝ }
+        ensures { λ r. ⌜ now r ≡ listed (now (self .entry) .stock) ⌝ }
     {
         self.stock.as_slice()
     }
@@ -69,20 +65,20 @@ impl Draft {
     }
 
     pub fn word_count(&self) -> usize
-        ensures { λ r. ⌜ r ≡ length (vec-items (now (self .entry) .words)) ⌝ }
+        ensures { λ r. ⌜ r ≡ length (listed (now (self .entry) .words)) ⌝ }
     {
         self.words.len()
     }
 
     // The words of a part of the table; none where it does not lie inside.
     pub fn rule(&self, part: Part) -> &[RuleWord]
-        ensures { λ r. ⌜ now r ≡ words (vec-items (now (self .entry) .words)) part ⌝ }
+        ensures { λ r. ⌜ now r ≡ words (listed (now (self .entry) .words)) part ⌝ }
     {
         let start = part.start as usize;
         let len = part.len as usize;
         if start + len > self.words.len() {
             return &[];
         }
-        &self.words[start..start + len]
+        &self.words.as_slice()[start..start + len]
     }
 }

@@ -1,6 +1,6 @@
 use mathlib.Core.Path.{ap, subst, sym}
 use lib.Dec.{T}
-use Rattle.std.specs.Of.Vec.{vec-items}
+use Rattle.world.specs.Listed.{listed}
 use Rattle.model.specs.Rules.{formed}
 use Rattle.world.specs.declared.rows.Part.{Part}
 use Rattle.world.specs.Rows.{words}
@@ -13,6 +13,6 @@ unfolding draft-of world-of rule-at
 returns c =
     let w = c .args .self .now in
     record {
-      words = ap (words (vec-items (w .made .words))) (c .goal .ensures);
-      well-formed = subst (λ (part : Part). T (formed (words (vec-items (w .made .words)) part))) (sym (c .goal .ensures)) (sound-formed _ _ (w .made .goal) (w .«goal_proper»));
+      words = ap (words (listed (w .made .words))) (c .goal .ensures);
+      well-formed = subst (λ (part : Part). T (formed (words (listed (w .made .words)) part))) (sym (c .goal .ensures)) (sound-formed _ _ (w .made .goal) (w .«goal_proper»));
     }

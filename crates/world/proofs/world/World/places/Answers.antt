@@ -2,7 +2,7 @@ use mathlib.Core.Path.{_≡_, refl, ap, subst, sym}
 use mathlib.Core.List.{List, map}
 use Prim.Native.Nat.{_≤_}
 use lib.ListN.{length}
-use Rattle.std.specs.Of.Vec.{vec-items}
+use Rattle.world.specs.Listed.{listed}
 use Rattle.std.specs.shelf.Lists.{All}
 use Rattle.world.specs.declared.rows.Place.{Place}
 use Rattle.world.specs.declared.world.World.{World}
@@ -10,7 +10,7 @@ use Rattle.world.specs.Worlds.{draft-of, world-of, spot, Known-place}
 use Rattle.world.proofs.Known.{known-places}
 use Rattle.world.proofs.world.World.places.Needs as need
 
-stand-for : (w : World) → map (spot w) (vec-items (w .made .places)) ≡ world-of w .places
+stand-for : (w : World) → map (spot w) (listed (w .made .places)) ≡ world-of w .places
 unfolding draft-of world-of spot
 stand-for w = refl
 
@@ -20,6 +20,6 @@ returns c =
     let e = sym (c .places .ensures) in
     record {
       meaning = subst (λ (rows : List Place). map (spot w) rows ≡ world-of w .places) e (stand-for w);
-      few = subst (λ (rows : List Place). length rows ≤ 256) e (w .made .«few_places»);
+      few = subst (λ (rows : List Place). length rows ≤ 256) e (w .made .places .few);
       known = subst (All (Known-place w)) e (known-places w);
     }

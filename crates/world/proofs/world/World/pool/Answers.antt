@@ -7,4 +7,4 @@ use Rattle.world.proofs.world.World.pool.Needs as need
 
 pub returns : need.returns
 unfolding draft-of world-of
-returns c = record { codes = c .pool .ensures; few = subst (λ (xs : List ℕ). length xs ≤ 256) (sym (c .pool .ensures)) (c .args .self .now .made .«few_items») }
+returns c = record { codes = c .pool .ensures; few = subst (λ (xs : List ℕ). length xs ≤ 256) (sym (c .pool .ensures)) (c .args .self .now .made .pool .few) }

@@ -7,4 +7,4 @@ pub returns : need.returns
 unfolding draft-of world-of
 returns c =
     let w = c .args .self .now in
-    record { count = c .region-count .ensures; some = omega (arith, c .region-count .ensures, w .«some_region»); few = omega (arith, c .region-count .ensures, w .made .«few_regions»); is-proper = is-proper w }
+    record { count = c .region-count .ensures; some = omega (arith, c .region-count .ensures, w .«some_region»); few = omega (arith, c .region-count .ensures, w .made .latest .few, w .made .«a_chain_each»); is-proper = is-proper w }

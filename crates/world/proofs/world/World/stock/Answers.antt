@@ -7,4 +7,4 @@ use Rattle.world.proofs.world.World.stock.Needs as need
 
 pub returns : need.returns
 unfolding draft-of world-of
-returns c = record { codes = c .stock .ensures; few = subst (λ (xs : List ℕ). length xs ≤ 32) (sym (c .stock .ensures)) (c .args .self .now .made .«small_stock») }
+returns c = record { codes = c .stock .ensures; few = subst (λ (xs : List ℕ). length xs ≤ 32) (sym (c .stock .ensures)) (c .args .self .now .made .stock .few) }
