@@ -1,3 +1,5 @@
 pub mod Checking
+pub mod Growing
 pub mod Known
+pub mod Making
 pub mod Tables

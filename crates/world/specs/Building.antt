@@ -75,10 +75,16 @@ abbrev pub goal-refusal : World → List RuleWord → Option BuildRefusal
 goal-refusal w rule = cond (eqb (length (w .goal)) 0) (region-due w (rule-refusal (w .kinds) (words-in w) true rule)) (Some GoalSet)
 
 -- why an item of a code is not taken into a list of items that has room or not
-abbrev pub item-refusal : World → Bool → ℕ → Option BuildRefusal
-item-refusal w room code =
-    cond (of-kinds (w .kinds) code) (cond room None (Some Full))
+abbrev pub item-refusal : List ℕ → Bool → ℕ → Option BuildRefusal
+item-refusal kinds room code =
+    cond (of-kinds kinds code) (cond room None (Some Full))
     (Some NoKind)
+
+abbrev pub pool-refusal : World → ℕ → Option BuildRefusal
+pool-refusal w code = item-refusal (w .kinds) (ltb (length (w .pool)) 256) code
+
+abbrev pub stock-refusal : World → ℕ → Option BuildRefusal
+stock-refusal w code = item-refusal (w .kinds) (ltb (length (w .stock)) 32) code
 
 -- the answer of a call that has nothing else to say
 abbrev pub told : Option BuildRefusal → Result (Unit {0}) BuildRefusal

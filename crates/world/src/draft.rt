@@ -16,6 +16,7 @@ use crate::table::Table;
 use model::RuleWord;
 
 mod checks;
+mod makes;
 mod reads;
 
 #[derive(Drop)]

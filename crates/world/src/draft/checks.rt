@@ -3,7 +3,7 @@ ghost use mathlib.Core.Path.{_≡_};
 ghost use lib.ListN.{length};
 ghost use Rattle.model.specs.Marks.{every};
 ghost use Rattle.model.specs.Proper.{«of-kinds», «names-kinds»};
-ghost use Rattle.world.specs.Building.{«rule-fits», «rule-refusal»};
+ghost use Rattle.world.specs.Building.{«rule-fits», «rule-refusal», «item-refusal»};
 ghost use Rattle.world.specs.Listed.{listed};
 use super::Draft;
 use crate::refusal::BuildRefusal;
@@ -74,5 +74,15 @@ impl Draft {
         } else {
             Some(BuildRefusal::Full)
         }
+    }
+
+    // Why an item is not taken in, where its list has room or not.
+    pub(super) fn item_refusal(&self, room: bool, code: u16) -> Option<BuildRefusal>
+        ensures { λ r. ⌜ r ≡ «item-refusal» (listed (now (self .entry) .kinds)) room code ⌝ }
+    {
+        if !self.has_kind(code) {
+            return Some(BuildRefusal::NoKind);
+        }
+        if room { None } else { Some(BuildRefusal::Full) }
     }
 }
