@@ -1,5 +1,7 @@
 pub mod Checking
 pub mod Growing
+pub mod Chains
 pub mod Known
-pub mod Making
 pub mod Tables
+pub mod Making
+pub mod Adding

@@ -22,9 +22,11 @@ use Rattle.model.proofs.Limits.{every-all, rule-facts, proper-laws}
 use Rattle.world.specs.declared.rows.Part.{Part}
 use Rattle.world.specs.declared.rows.Gate.{Gate}
 use Rattle.world.specs.declared.rows.Place.{Place}
+use Rattle.world.specs.declared.draft.Draft.{Draft}
 use Rattle.world.specs.declared.world.World.{World}
 use Rattle.world.specs.Rows.{inside, words, gate-of, place-of, rule-sound, gate-sound, place-sound, goal-sound, words-of}
 use Rattle.world.specs.Worlds.{draft-of, world-of}
+use Rattle.world.proofs.Growing.{goal-inside}
 
 -- a part inside the table has as many words as it says
 pub length-words : (table : List RuleWord) (part : Part) → T (inside table part) → length (words table part) ≡ part .len
@@ -56,10 +58,12 @@ module _ (regions : ℕ) (kinds : List ℕ) (table : List RuleWord) where
       (sum-same (place-sound regions kinds table) (place-of table) (λ (q : Place). q .rule .len) (λ (q : Spot). length (q .rule)) (λ q t. length-words table (q .rule) (place-inside q t)) places b))
       (length-words table goal c)
 
-module _ (w : World) where
-  goal-inside : T (inside (listed (w .made .words)) (w .made .goal))
-  goal-inside = and-both (inside (listed (w .made .words)) (w .made .goal)) _ (w .«goal_proper») .0
+-- the words that a draft's rules have together
+pub draft-words : (d : Draft) → words-in (draft-of d) ≡ length (listed (d .words))
+unfolding draft-of
+draft-words d = words-counted (d .regions) (listed (d .kinds)) (listed (d .words)) (listed (d .gates)) (listed (d .places)) (d .goal) (d .«gates_lead») (d .«places_lie») (goal-inside (listed (d .kinds)) (listed (d .words)) (d .goal) (d .«goal_kept»)) ∙ d .counted
 
+module _ (w : World) where
   gate-proper : (g : Gate) → T (gate-sound (w .made .regions) (listed (w .made .kinds)) (listed (w .made .words)) g) → Proper-gate (world-of w) (gate-of (listed (w .made .words)) g)
   unfolding draft-of world-of
   gate-proper g t =
@@ -81,8 +85,8 @@ module _ (w : World) where
       }
 
   pub words-total : words-in (world-of w) ≡ length (listed (w .made .words))
-  unfolding draft-of world-of
-  words-total = words-counted (w .made .regions) (listed (w .made .kinds)) _ _ _ _ (w .made .«gates_lead») (w .made .«places_lie») goal-inside ∙ w .made .counted
+  unfolding world-of
+  words-total = draft-words (w .made)
 
   few-of : (f : Family) → kinds-of (world-of w) f ≤ 32
   unfolding draft-of world-of

@@ -9,6 +9,7 @@ use Rattle.std.specs.declared.option.Option.the-variants.{Some, None}
 use Rattle.std.specs.declared.result.Result.{Result}
 use Rattle.std.specs.declared.result.Result.the-variants.{Ok, Err}
 use Rattle.inventory.specs.declared.family.Family.{Family}
+use Rattle.inventory.specs.Families.{code-of}
 use Rattle.model.specs.declared.rule_word.RuleWord.{RuleWord}
 use Rattle.model.specs.Marks.{every}
 use Rattle.model.specs.Rules.{formed}
@@ -42,6 +43,13 @@ with-stock w code = record { regions = w .regions; kinds = w .kinds; gates = w .
 
 abbrev pub with-goal : World → List RuleWord → World
 with-goal w rule = record { regions = w .regions; kinds = w .kinds; gates = w .gates; places = w .places; pool = w .pool; stock = w .stock; goal = rule }
+
+-- whether there is room for one kind more of a family, and the code that it gets
+abbrev pub kind-fits : World → Family → Bool
+kind-fits w family = ltb (length (w .kinds)) 64 && ltb (kinds-of w family) 32
+
+abbrev pub new-code : World → Family → ℕ
+new-code w family = code-of family (kinds-of w family)
 
 -- whether a rule finds room: in the table of its row, for itself, and behind the words there are already
 abbrev pub rule-fits : Bool → ℕ → List RuleWord → Bool

@@ -1,13 +1,20 @@
 // Why a row is not taken into a draft.
 ghost use mathlib.Core.Path.{_≡_};
+ghost use mathlib.Core.Bool.{_&&_};
+ghost use Prim.Native.Nat.{ℕ, _<_, _≤_};
+ghost use lib.Dec.{ltb};
 ghost use lib.ListN.{length};
+ghost use Rattle.std.specs.shelf.Lists.{countBy};
 ghost use Rattle.model.specs.Marks.{every};
-ghost use Rattle.model.specs.Proper.{«of-kinds», «names-kinds»};
-ghost use Rattle.world.specs.Building.{«rule-fits», «rule-refusal», «item-refusal»};
+ghost use Rattle.model.specs.Proper.{«of-kinds», «of-family», «names-kinds»};
+ghost use Rattle.world.specs.Building.{«rule-fits», «rule-refusal», «gate-refusal», «place-refusal», «goal-refusal», «item-refusal»};
 ghost use Rattle.world.specs.Listed.{listed};
+ghost use Rattle.world.specs.Worlds.{«draft-of»};
 use super::Draft;
 use crate::refusal::BuildRefusal;
+use crate::rows::Part;
 use crate::rules::is_formed;
+use inventory::Family;
 use model::RuleWord;
 
 // Whether a code is one of some.
@@ -20,6 +27,31 @@ fn has_code(codes: &[u16], code: u16) -> bool
         }
     }
     false
+}
+
+// Whether a code is of a family.
+fn is_of(family: Family, code: u16) -> bool
+    ensures { λ r. ⌜ r ≡ «of-family» family code ⌝ }
+{
+    match family {
+        Family::Key => code % 2 == 0,
+        Family::Count => code % 4 == 1,
+        Family::Tier => code % 4 == 3,
+    }
+}
+
+// How many of some codes, fewer than 256, are of a family.
+fn count_of(family: Family, codes: &[u16]) -> u8
+    requires { ⌜ length (now codes) < 256 ⌝ }
+    ensures { λ r. ⌜ r ≡ countBy («of-family» family) (now (codes .entry)) ⌝ }
+{
+    let mut count = 0;
+    for code in codes {
+        if is_of(family, *code) {
+            count += 1;
+        }
+    }
+    count
 }
 
 impl Draft {
@@ -84,5 +116,78 @@ impl Draft {
             return Some(BuildRefusal::NoKind);
         }
         if room { None } else { Some(BuildRefusal::Full) }
+    }
+
+    // How many kinds are of a family.
+    pub fn kinds_of(&self, family: Family) -> u8
+        ensures { λ r. ⌜ r ≡ countBy («of-family» family) (listed (now (self .entry) .kinds)) ⌝ }
+    {
+        count_of(family, self.kinds.as_slice())
+    }
+
+    // Whether there is room for one kind more, of a family that has this many.
+    pub(super) fn has_room_for_kind(&self, number: u8) -> bool
+        ensures { λ r. ⌜ r ≡ (ltb (length (listed (now (self .entry) .kinds))) 64 && ltb number 32) ⌝ }
+    {
+        self.kinds.len() < 64 && number < 32
+    }
+
+    // Where a rule will stand once it is put behind the others.
+    pub(super) fn next_part(&self, rule: &[RuleWord]) -> Part
+        ensures start { λ r. ⌜ r .start ≡ length (listed (now (self .entry) .words)) ⌝ }
+        ensures len { λ r. ⌜ (length (now (rule .entry)) ≤ 32 → r .len ≡ length (now (rule .entry))) ⌝ }
+    {
+        let len = if rule.len() <= 32 {
+            rule.len() as u16
+        } else {
+            0
+        };
+        Part {
+            start: self.words.len() as u16,
+            len,
+        }
+    }
+
+    fn has_regions(&self, near: u8, far: u8) -> bool
+        ensures { λ r. ⌜ r ≡ (ltb near (now (self .entry) .regions) && ltb far (now (self .entry) .regions)) ⌝ }
+    {
+        near < self.regions && far < self.regions
+    }
+
+    // Why a gate is not taken in.
+    pub(super) fn gate_refusal(&self, near: u8, far: u8, rule: &[RuleWord]) -> Option<BuildRefusal>
+        ensures { λ r. ⌜ r ≡ «gate-refusal» («draft-of» (now (self .entry))) near far (now (rule .entry)) ⌝ }
+    {
+        if !self.has_regions(near, far) {
+            return Some(BuildRefusal::NoRegion);
+        }
+        self.rule_refusal(self.gates.len() < 256, rule)
+    }
+
+    // Why a place is not taken in.
+    pub(super) fn place_refusal(&self, region: u8, rule: &[RuleWord]) -> Option<BuildRefusal>
+        ensures { λ r. ⌜ r ≡ «place-refusal» («draft-of» (now (self .entry))) region (now (rule .entry)) ⌝ }
+    {
+        if region >= self.regions {
+            return Some(BuildRefusal::NoRegion);
+        }
+        self.rule_refusal(self.places.len() < 256, rule)
+    }
+
+    // Why a goal is not set.
+    pub(super) fn goal_refusal(&self, rule: &[RuleWord]) -> Option<BuildRefusal>
+        ensures { λ r. ⌜ r ≡ «goal-refusal» («draft-of» (now (self .entry))) (now (rule .entry)) ⌝ }
+    {
+        if self.goal.len != 0 {
+            return Some(BuildRefusal::GoalSet);
+        }
+        if let Some(why) = self.rule_refusal(true, rule) {
+            return Some(why);
+        }
+        if self.regions == 0 {
+            Some(BuildRefusal::NoRegion)
+        } else {
+            None
+        }
     }
 }

@@ -6,12 +6,16 @@ ghost use lib.ListN.{length};
 ghost use Rattle.std.specs.Vec.{made};
 ghost use Rattle.std.specs.declared.result.Result.the-variants.{Ok, Err};
 ghost use Rattle.world.specs.declared.refusal.BuildRefusal.the-variants.{Full};
-ghost use Rattle.world.specs.Building.{nothing, told, left, «with-region», «with-item», «with-stock», «pool-refusal», «stock-refusal»};
+ghost use Rattle.world.specs.Building.{nothing, told, left, «with-region», «with-kind», «kind-fits», «new-code», «with-item», «with-stock», «with-gate», «with-place», «with-goal», «gate-refusal», «place-refusal», «goal-refusal», «pool-refusal», «stock-refusal»};
 ghost use Rattle.world.specs.Worlds.{«draft-of»};
 use super::Draft;
 use crate::refusal::BuildRefusal;
+use crate::rows::Gate;
 use crate::rows::Part;
+use crate::rows::Place;
 use crate::table::Table;
+use inventory::Family;
+use model::RuleWord;
 use std::alloc::AllocError;
 use std::alloc::Global;
 
@@ -20,16 +24,24 @@ impl Draft {
     pub fn new(heap: Global) -> Result<Draft, AllocError>
         ensures { λ r. ⌜ made r (λ d. «draft-of» d ≡ nothing) ⌝ }
     {
+        let kinds = Table::new(heap)?;
+        let gates = Table::new(heap)?;
+        let latest = Table::new(heap)?;
+        let places = Table::new(heap)?;
+        let words = Table::new(heap)?;
+        let pool = Table::new(heap)?;
+        let stock = Table::new(heap)?;
+        let goal = Part { start: 0, len: 0 };
         Ok(Draft {
             regions: 0,
-            kinds: Table::new(heap)?,
-            gates: Table::new(heap)?,
-            latest: Table::new(heap)?,
-            places: Table::new(heap)?,
-            words: Table::new(heap)?,
-            pool: Table::new(heap)?,
-            stock: Table::new(heap)?,
-            goal: Part { start: 0, len: 0 },
+            kinds,
+            gates,
+            latest,
+            places,
+            words,
+            pool,
+            stock,
+            goal,
         })
     }
 
@@ -39,11 +51,26 @@ impl Draft {
         ensures draft { λ _. ⌜ «draft-of» (now (self .exit)) ≡ cond (ltb («draft-of» (now (self .entry)) .regions) 64) («with-region» («draft-of» (now (self .entry)))) («draft-of» (now (self .entry))) ⌝ }
     {
         let region = self.regions;
-        if !self.latest.push(0) {
+        if region >= 64 {
             return Err(BuildRefusal::Full);
         }
+        let _ = self.latest.push(0);
         self.regions = region + 1;
         Ok(region)
+    }
+
+    // One kind more of a family; answers its code.
+    pub fn add_kind(&mut self, family: Family) -> Result<u16, BuildRefusal>
+        ensures answer { λ r. ⌜ r ≡ cond («kind-fits» («draft-of» (now (self .entry))) family) (Ok («new-code» («draft-of» (now (self .entry))) family)) (Err Full) ⌝ }
+        ensures draft { λ _. ⌜ «draft-of» (now (self .exit)) ≡ cond («kind-fits» («draft-of» (now (self .entry))) family) («with-kind» («draft-of» (now (self .entry))) («new-code» («draft-of» (now (self .entry))) family)) («draft-of» (now (self .entry))) ⌝ }
+    {
+        let number = self.kinds_of(family);
+        if !self.has_room_for_kind(number) {
+            return Err(BuildRefusal::Full);
+        }
+        let code = family.code(number);
+        let _ = self.kinds.push(code);
+        Ok(code)
     }
 
     // One item more in the pool.
@@ -69,6 +96,56 @@ impl Draft {
             return Err(why);
         }
         let _ = self.stock.push(code);
+        Ok(())
+    }
+
+    // One gate more.
+    pub fn add_gate(&mut self, near: u8, far: u8, rule: &[RuleWord]) -> Result<(), BuildRefusal>
+        ensures answer { λ r. ⌜ r ≡ told («gate-refusal» («draft-of» (now (self .entry))) near far (now (rule .entry))) ⌝ }
+        ensures draft { λ _. ⌜ «draft-of» (now (self .exit)) ≡ left («gate-refusal» («draft-of» (now (self .entry))) near far (now (rule .entry))) («with-gate» («draft-of» (now (self .entry))) (record { near = near; far = far; rule = now (rule .entry) })) («draft-of» (now (self .entry))) ⌝ }
+    {
+        if let Some(why) = self.gate_refusal(near, far, rule) {
+            return Err(why);
+        }
+        let part = self.next_part(rule);
+        let number = self.gates.len() as u16 + 1;
+        let earlier = self.latest.get_or(near as usize, 0);
+        let _ = self.words.extend(rule);
+        let _ = self.gates.push(Gate {
+            near,
+            far,
+            rule: part,
+            earlier,
+        });
+        self.latest.replace(near as usize, number);
+        Ok(())
+    }
+
+    // One place more.
+    pub fn add_place(&mut self, region: u8, rule: &[RuleWord]) -> Result<(), BuildRefusal>
+        ensures answer { λ r. ⌜ r ≡ told («place-refusal» («draft-of» (now (self .entry))) region (now (rule .entry))) ⌝ }
+        ensures draft { λ _. ⌜ «draft-of» (now (self .exit)) ≡ left («place-refusal» («draft-of» (now (self .entry))) region (now (rule .entry))) («with-place» («draft-of» (now (self .entry))) (record { region = region; rule = now (rule .entry) })) («draft-of» (now (self .entry))) ⌝ }
+    {
+        if let Some(why) = self.place_refusal(region, rule) {
+            return Err(why);
+        }
+        let part = self.next_part(rule);
+        let _ = self.words.extend(rule);
+        let _ = self.places.push(Place { region, rule: part });
+        Ok(())
+    }
+
+    // Sets the goal, which can be done once.
+    pub fn set_goal(&mut self, rule: &[RuleWord]) -> Result<(), BuildRefusal>
+        ensures answer { λ r. ⌜ r ≡ told («goal-refusal» («draft-of» (now (self .entry))) (now (rule .entry))) ⌝ }
+        ensures draft { λ _. ⌜ «draft-of» (now (self .exit)) ≡ left («goal-refusal» («draft-of» (now (self .entry))) (now (rule .entry))) («with-goal» («draft-of» (now (self .entry))) (now (rule .entry))) («draft-of» (now (self .entry))) ⌝ }
+    {
+        if let Some(why) = self.goal_refusal(rule) {
+            return Err(why);
+        }
+        let part = self.next_part(rule);
+        let _ = self.words.extend(rule);
+        self.goal = part;
         Ok(())
     }
 }
