@@ -1,5 +1,6 @@
 -- A rule put behind the words of a draft, with its row.
 use mathlib.Core.Path.{_≡_, refl, sym, ap, ap₂, subst, _∙_}
+use mathlib.Core.Logic.{inl, inr}
 use mathlib.Core.Bool.{Bool, true, false, cond, _&&_}
 use mathlib.Core.List.{List, [], _∷_, _++_, map}
 use Prim.Native.Nat.{ℕ, _+_, _<_, _≤_}
@@ -10,7 +11,7 @@ use lib.Seq.{take-all}
 use Rattle.std.specs.shelf.Lists.{sumBy}
 use Rattle.std.proofs.shelf.Lists.{drop-at, map-push}
 use Rattle.std.proofs.shelf.Sums.{sumBy-push}
-use Rattle.std.proofs.shelf.Tests.{cond-true, cond-false, eq-eqb, ne-eqb}
+use Rattle.std.proofs.shelf.Tests.{cond-true, eq-eqb, ne-eqb, eqb-true, cases-lt}
 use Rattle.std.specs.declared.option.Option.{Option}
 use Rattle.std.specs.declared.option.Option.the-variants.{Some, None}
 use Rattle.model.specs.declared.rule_word.RuleWord.{RuleWord}
@@ -29,6 +30,7 @@ use Rattle.world.specs.Rows.{inside, words, gate-of, place-of, atlas, rule-sou
 use Rattle.world.specs.Worlds.{draft-of}
 use Rattle.world.proofs.Growing.{Grows, words-more, every-push, gates-grow, places-grow, goal-grows, gates-same, places-same, goal-inside}
 use Rattle.world.proofs.Tables.{draft-words, length-words}
+use Rattle.world.proofs.Making.{none-some, Taken, rule-taken}
 
 -- what a call decides, by the tables and by the world that they stand for
 module _ (d : Draft) (rule : List RuleWord) where
@@ -60,6 +62,38 @@ module _ (d : Draft) (rule : List RuleWord) where
 
   pub goal-there : (d .goal .len ≡ 0 → ⊥) → eqb (length (draft-of d .goal)) 0 ≡ false
   goal-there ne = ne-eqb _ _ (λ e. ne (sym goal-length ∙ e))
+
+-- what is known of a gate, a place and a goal that are not refused
+due-cases : (b : Bool) (o : Option BuildRefusal) (why : BuildRefusal) → None ≡ cond b o (Some why) → T b × (None ≡ o)
+due-cases true o why e = (tt, e)
+due-cases false o why e = none-some why e
+
+region-cases : (d : Draft) (o : Option BuildRefusal) → None ≡ region-due (draft-of d) o → (None ≡ o) × (0 < d .regions)
+unfolding draft-of
+region-cases d (Some why) e = none-some why e
+region-cases d None e = (refl, elim (cases-lt 0 (d .regions)) [ inl h ↦ h | inr h ↦ none-some _ (e ∙ cond-true (eqb (d .regions) 0) _ _ (eq-eqb (d .regions) 0 (omega arith))) ])
+
+module _ (d : Draft) (rule : List RuleWord) where
+  pub gate-taken : (near far : ℕ) → None ≡ gate-refusal (draft-of d) near far rule
+      → (T (ltb near (d .regions)) × T (ltb far (d .regions))) × Taken (listed (d .kinds)) (length (listed (d .words))) (ltb (length (listed (d .gates))) 256) rule
+  unfolding draft-of
+  gate-taken near far e =
+      let p = due-cases (ltb near (d .regions) && ltb far (d .regions)) _ _ e in
+      (and-both (ltb near (d .regions)) _ (p .0), rule-taken _ _ _ rule (p .1 ∙ sym (ap₂ (λ (k m : ℕ). rule-refusal (listed (d .kinds)) k (ltb m 256) rule) (sym (draft-words d)) (sym (length-map (listed (d .gates)) (gate-of (listed (d .words))))))))
+
+  pub place-taken : (region : ℕ) → None ≡ place-refusal (draft-of d) region rule
+      → T (ltb region (d .regions)) × Taken (listed (d .kinds)) (length (listed (d .words))) (ltb (length (listed (d .places))) 256) rule
+  unfolding draft-of
+  place-taken region e =
+      let p = due-cases (ltb region (d .regions)) _ _ e in
+      (p .0, rule-taken _ _ _ rule (p .1 ∙ sym (ap₂ (λ (k m : ℕ). rule-refusal (listed (d .kinds)) k (ltb m 256) rule) (sym (draft-words d)) (sym (length-map (listed (d .places)) (place-of (listed (d .words))))))))
+
+  pub goal-taken : None ≡ goal-refusal (draft-of d) rule → (d .goal .len ≡ 0) × Taken (listed (d .kinds)) (length (listed (d .words))) true rule × (0 < d .regions)
+  goal-taken e =
+      let p = due-cases (eqb (length (draft-of d .goal)) 0) _ _ e in
+      let unset : d .goal .len ≡ 0 = sym (goal-length d rule) ∙ eqb-true _ _ (true-if _ (p .0)) in
+      let q = region-cases d _ (e ∙ sym (goal-decided d rule unset)) in
+      (unset, rule-taken _ _ _ rule (q .0), q .1)
 
 -- the part that a rule has behind the words of a table
 module _ (kinds : List ℕ) (table rule : List RuleWord) (part : Part) (s : part .start ≡ length table) (l : part .len ≡ length rule) where
@@ -170,3 +204,11 @@ module _ (d : Draft) (rule : List RuleWord) (part : Part) (s : part .start ≡ l
   counted-with-goal e =
       let k = length-append (listed (d .words)) rule in
       omega (arith, d .counted)
+
+-- a goal that is a proper rule is sound, whatever its length
+sound-cases : (unset : Bool) (kinds : List ℕ) (table : List RuleWord) (part : Part) → T (rule-sound kinds table part) → T (cond unset (inside table part) (rule-sound kinds table part))
+sound-cases true kinds table part t = and-both (inside table part) _ t .0
+sound-cases false kinds table part t = t
+
+pub sound-goal : (kinds : List ℕ) (table : List RuleWord) (part : Part) → T (rule-sound kinds table part) → T (goal-sound kinds table part)
+sound-goal kinds table part t = sound-cases (eqb (part .len) 0) kinds table part t

@@ -19,7 +19,7 @@ use Rattle.world.specs.declared.refusal.BuildRefusal.{BuildRefusal}
 use Rattle.world.specs.Building.{left, item-refusal, rule-fits, rule-refusal}
 use Rattle.world.proofs.Growing.{every-push}
 
-none-some : {A : Type 0} (why : BuildRefusal) → _≡_ {A = Option BuildRefusal} None (Some why) → A
+pub none-some : {A : Type 0} (why : BuildRefusal) → _≡_ {A = Option BuildRefusal} None (Some why) → A
 none-some why e = absurd (let z : _≡_ {A = ℕ} 0 1 = cc in omega arith)
 
 -- what a call leaves that is not refused
@@ -29,6 +29,10 @@ changed o after with-it before h e = e ∙ ap (λ x. left x with-it before) h
 -- rows behind a list that has room for them
 pub joined-on : {A : Type 0} (xs more ys : List A) (fits fitting : Bool) → fits ≡ fitting → T fitting → ys ≡ cond fits (xs ++ more) xs → ys ≡ xs ++ more
 joined-on xs more ys fits fitting e t h = h ∙ cond-true fits (xs ++ more) xs (e ∙ true-if fitting t)
+
+-- a fact of two values, said of two that equal them
+pub back : {A B : Type 0} (P : A → B → Type 0) {a a′ : A} {b b′ : B} → a′ ≡ a → b′ ≡ b → P a b → P a′ b′
+back P {a} {a′} {b} {b′} e f p = subst (λ y. P a′ y) (sym f) (subst (λ x. P x b) (sym e) p)
 
 -- what is known of an item that is not refused
 item-cases : (known room : Bool) (no-kind no-room : BuildRefusal) → None ≡ cond known (cond room None (Some no-room)) (Some no-kind) → T known × T room
