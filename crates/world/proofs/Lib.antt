@@ -5,3 +5,4 @@ pub mod Known
 pub mod Tables
 pub mod Making
 pub mod Adding
+pub mod Counting
