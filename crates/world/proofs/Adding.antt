@@ -32,6 +32,11 @@ use Rattle.world.proofs.Growing.{Grows, words-more, every-push, gates-grow, pl
 use Rattle.world.proofs.Tables.{draft-words, length-words}
 use Rattle.world.proofs.Making.{none-some, Taken, rule-taken}
 
+-- a goal has as many words as its part says
+pub goal-length : (d : Draft) → length (draft-of d .goal) ≡ d .goal .len
+unfolding draft-of
+goal-length d = length-words (listed (d .words)) (d .goal) (goal-inside (listed (d .kinds)) (listed (d .words)) (d .goal) (d .«goal_kept»))
+
 -- what a call decides, by the tables and by the world that they stand for
 module _ (d : Draft) (rule : List RuleWord) where
   pub gate-decided : (near far n : ℕ) → n ≡ length (listed (d .gates)) → (ltb near (d .regions) && ltb far (d .regions)) ≡ true
@@ -48,20 +53,15 @@ module _ (d : Draft) (rule : List RuleWord) where
       ap₂ (λ (k m : ℕ). rule-refusal (listed (d .kinds)) k (ltb m 256) rule) (sym (draft-words d)) (e ∙ sym (length-map (listed (d .places)) (place-of (listed (d .words)))))
       ∙ sym (cond-true (ltb region (d .regions)) _ _ (true-if _ (le→leb _ _ h)))
 
-  -- a goal has as many words as its part says
-  goal-length : length (draft-of d .goal) ≡ d .goal .len
-  unfolding draft-of
-  goal-length = length-words (listed (d .words)) (d .goal) (goal-inside (listed (d .kinds)) (listed (d .words)) (d .goal) (d .«goal_kept»))
-
   pub goal-decided : d .goal .len ≡ 0
       → region-due (draft-of d) (rule-refusal (listed (d .kinds)) (length (listed (d .words))) true rule) ≡ goal-refusal (draft-of d) rule
   unfolding draft-of
   goal-decided e =
       ap (λ (k : ℕ). region-due (draft-of d) (rule-refusal (listed (d .kinds)) k true rule)) (sym (draft-words d))
-      ∙ sym (cond-true (eqb (length (draft-of d .goal)) 0) _ _ (eq-eqb _ _ (goal-length ∙ e)))
+      ∙ sym (cond-true (eqb (length (draft-of d .goal)) 0) _ _ (eq-eqb _ _ (goal-length d ∙ e)))
 
   pub goal-there : (d .goal .len ≡ 0 → ⊥) → eqb (length (draft-of d .goal)) 0 ≡ false
-  goal-there ne = ne-eqb _ _ (λ e. ne (sym goal-length ∙ e))
+  goal-there ne = ne-eqb _ _ (λ e. ne (sym (goal-length d) ∙ e))
 
 -- what is known of a gate, a place and a goal that are not refused
 due-cases : (b : Bool) (o : Option BuildRefusal) (why : BuildRefusal) → None ≡ cond b o (Some why) → T b × (None ≡ o)
@@ -91,7 +91,7 @@ module _ (d : Draft) (rule : List RuleWord) where
   pub goal-taken : None ≡ goal-refusal (draft-of d) rule → (d .goal .len ≡ 0) × Taken (listed (d .kinds)) (length (listed (d .words))) true rule × (0 < d .regions)
   goal-taken e =
       let p = due-cases (eqb (length (draft-of d .goal)) 0) _ _ e in
-      let unset : d .goal .len ≡ 0 = sym (goal-length d rule) ∙ eqb-true _ _ (true-if _ (p .0)) in
+      let unset : d .goal .len ≡ 0 = sym (goal-length d) ∙ eqb-true _ _ (true-if _ (p .0)) in
       let q = region-cases d _ (e ∙ sym (goal-decided d rule unset)) in
       (unset, rule-taken _ _ _ rule (q .0), q .1)
 

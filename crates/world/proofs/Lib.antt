@@ -6,3 +6,5 @@ pub mod Tables
 pub mod Making
 pub mod Adding
 pub mod Counting
+pub mod Blank
+pub mod Finished

@@ -1,6 +1,6 @@
 -- What the calls that make a world answer, and what they leave.
 use mathlib.Core.List.{List, [], _∷_, _++_}
-use mathlib.Core.Bool.{Bool, true, cond, _&&_}
+use mathlib.Core.Bool.{Bool, true, not, cond, _&&_}
 use Prim.Native.Nat.{ℕ, _+_}
 use lib.Dec.{leb, ltb, eqb}
 use lib.ListN.{length}
@@ -21,6 +21,10 @@ use Rattle.world.specs.declared.refusal.BuildRefusal.the-variants.{NoRegion, I
 -- nothing made yet: no region, no goal
 abbrev pub nothing : World
 nothing = record { regions = 0; kinds = []; gates = []; places = []; pool = []; stock = []; goal = [] }
+
+-- whether a draft has what a world needs: a region, and a goal
+abbrev pub complete : World → Bool
+complete w = not (eqb (w .regions) 0) && not (eqb (length (w .goal)) 0)
 
 -- a world with one more of something
 abbrev pub with-region : World → World

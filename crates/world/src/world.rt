@@ -5,6 +5,7 @@ ghost use Rattle.world.specs.Listed.{listed};
 ghost use Rattle.world.specs.Rows.{«rule-sound»};
 use crate::draft::Draft;
 
+mod makes;
 mod reads;
 
 #[derive(Drop)]

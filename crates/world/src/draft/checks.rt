@@ -7,7 +7,7 @@ ghost use lib.ListN.{length};
 ghost use Rattle.std.specs.shelf.Lists.{countBy};
 ghost use Rattle.model.specs.Marks.{every};
 ghost use Rattle.model.specs.Proper.{«of-kinds», «of-family», «names-kinds»};
-ghost use Rattle.world.specs.Building.{«rule-fits», «rule-refusal», «gate-refusal», «place-refusal», «goal-refusal», «item-refusal»};
+ghost use Rattle.world.specs.Building.{«rule-fits», «rule-refusal», «gate-refusal», «place-refusal», «goal-refusal», «item-refusal», complete};
 ghost use Rattle.world.specs.Listed.{listed};
 ghost use Rattle.world.specs.Worlds.{«draft-of»};
 use super::Draft;
@@ -189,5 +189,12 @@ impl Draft {
         } else {
             None
         }
+    }
+
+    // Whether nothing is missing: a region at least, and the goal.
+    pub fn is_complete(&self) -> bool
+        ensures { λ r. ⌜ r ≡ complete («draft-of» (now (self .entry))) ⌝ }
+    {
+        self.regions != 0 && self.goal.len != 0
     }
 }

@@ -45,6 +45,21 @@ impl Draft {
         })
     }
 
+    // Nothing made yet, again.
+    pub fn clear(&mut self)
+        ensures { λ _. ⌜ «draft-of» (now (self .exit)) ≡ nothing ⌝ }
+    {
+        self.regions = 0;
+        self.kinds.clear();
+        self.gates.clear();
+        self.latest.clear();
+        self.places.clear();
+        self.words.clear();
+        self.pool.clear();
+        self.stock.clear();
+        self.goal = Part { start: 0, len: 0 };
+    }
+
     // One region more; answers its number.
     pub fn add_region(&mut self) -> Result<u8, BuildRefusal>
         ensures answer { λ r. ⌜ r ≡ cond (ltb («draft-of» (now (self .entry)) .regions) 64) (Ok («draft-of» (now (self .entry)) .regions)) (Err Full) ⌝ }

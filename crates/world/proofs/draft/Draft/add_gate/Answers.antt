@@ -33,17 +33,41 @@ ghost-self c =
     let eg = joined-on (listed (d .gates)) (g ∷ []) (listed (c .push .last .self)) (c .push .result) _ (c .push .ensures .fits) (t .1 .roomy) (c .push .ensures .rows) in
     let ew = joined-on (listed (d .words)) rule (listed (c .extend .last .self)) (c .extend .result) _ (c .extend .ensures .fits) (t .1 .behind) (c .extend .ensures .rows) in
     let el : listed (c .replace .last .self) ≡ set (listed (d .latest)) (c .args .near) (length (listed (d .gates)) + 1) =
-        c .replace .ensures ∙ ap (λ (n : ℕ). set (listed (d .latest)) (c .args .near) (n + 1)) (c .len .ensures) in
-    let sound = and-from (ltb (c .args .near) (d .regions)) _ (t .0 .0) (and-from (ltb (c .args .far) (d .regions)) _ (t .0 .1) (part-sound (listed (d .kinds)) (listed (d .words)) rule part s l (t .1 .proper))) in
-    (d .«few_keys», (d .«few_counts», (d .«few_tiers»,
-    (back (λ (gs : List Gate) (ws : List RuleWord). words-of gs (listed (d .places)) (d .goal) ≡ length ws) eg ew (counted-with-gate d rule part s l g refl),
-    (back (λ (gs : List Gate) (ws : List RuleWord). T (every (gate-sound (d .regions) (listed (d .kinds)) ws) gs)) eg ew (every-push (gate-sound (d .regions) (listed (d .kinds)) (listed (d .words) ++ rule)) (listed (d .gates)) g (gates-lead d rule part s l) sound),
-    (subst (λ (ws : List RuleWord). T (every (place-sound (d .regions) (listed (d .kinds)) ws) (listed (d .places)))) (sym ew) (places-lie d rule part s l),
-    (subst (λ (ws : List RuleWord). T (goal-sound (listed (d .kinds)) ws (d .goal))) (sym ew) (goal-kept d rule part s l),
-    (d .«pool_known», (d .«stock_known»,
-    (ap length el ∙ length-set (listed (d .latest)) (c .args .near) (length (listed (d .gates)) + 1) ∙ d .«a_chain_each»,
-    (back (λ (ls : List ℕ) (gs : List Gate). (r : ℕ) → r < d .regions → getD ls r 0 ≡ last-leaving gs r (length gs)) el eg (chains-start (listed (d .gates)) g (d .regions) (listed (d .latest)) (d .«a_chain_each») near (d .«chains_start»)),
-    (subst Chained (sym eg) (chains-go-on (listed (d .gates)) g (c .get-or-earlier .ensures ∙ d .«chains_start» (c .args .near) near) (d .«chains_go_on»)), tt))))))))))))
+    c .replace .ensures ∙ ap (λ (n : ℕ). set (listed (d .latest)) (c .args .near) (n + 1)) (c .len .ensures) in
+    let sound = and-from (ltb (c .args .near) (d .regions)) _ (t .0 .0) (and-from (ltb (c .args .far) (d .regions)) _ (t .0 .1) (part-sound (listed (d .kinds)) (listed (d .words)) rule part s l (t .1 .proper))) in (
+      d .«few_keys»,
+      (
+        d .«few_counts»,
+        (
+          d .«few_tiers»,
+          (
+            back (λ (gs : List Gate) (ws : List RuleWord). words-of gs (listed (d .places)) (d .goal) ≡ length ws) eg ew (counted-with-gate d rule part s l g refl),
+            (
+              back (λ (gs : List Gate) (ws : List RuleWord). T (every (gate-sound (d .regions) (listed (d .kinds)) ws) gs)) eg ew (every-push (gate-sound (d .regions) (listed (d .kinds)) (listed (d .words) ++ rule)) (listed (d .gates)) g (gates-lead d rule part s l) sound),
+              (
+                subst (λ (ws : List RuleWord). T (every (place-sound (d .regions) (listed (d .kinds)) ws) (listed (d .places)))) (sym ew) (places-lie d rule part s l),
+                (
+                  subst (λ (ws : List RuleWord). T (goal-sound (listed (d .kinds)) ws (d .goal))) (sym ew) (goal-kept d rule part s l),
+                  (
+                    d .«pool_known»,
+                    (
+                      d .«stock_known»,
+                      (
+                        ap length el ∙ length-set (listed (d .latest)) (c .args .near) (length (listed (d .gates)) + 1) ∙ d .«a_chain_each»,
+                        (
+                          back (λ (ls : List ℕ) (gs : List Gate). (r : ℕ) → r < d .regions → getD ls r 0 ≡ last-leaving gs r (length gs)) el eg (chains-start (listed (d .gates)) g (d .regions) (listed (d .latest)) (d .«a_chain_each») near (d .«chains_start»)),
+                          (subst Chained (sym eg) (chains-go-on (listed (d .gates)) g (c .get-or-earlier .ensures ∙ d .«chains_start» (c .args .near) near) (d .«chains_go_on»)), tt),
+                        ),
+                      ),
+                    ),
+                  ),
+                ),
+              ),
+            ),
+          ),
+        ),
+      ),
+    )
 
 pub returns : need.returns
 unfolding draft-of

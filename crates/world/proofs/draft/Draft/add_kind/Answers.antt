@@ -45,14 +45,34 @@ ghost-self c =
     let ek : listed (c .push .last .self) ≡ listed (d .kinds) ++ code ∷ [] = c .push .ensures .rows ∙ cond-true (c .push .result) _ _ (c .push .ensures .fits ∙ room .0) in
     let grown = kind-more (d .regions) (listed (d .kinds)) code (listed (d .words)) in
     let of-code : (g : Family) → countBy (of-family g) (listed (d .kinds)) ≤ 32 → countBy (of-family g) (listed (c .push .last .self)) ≤ 32 = λ g h.
-        subst (λ (ks : List ℕ). countBy (of-family g) ks ≤ 32) (sym (ek ∙ ap (λ (k : ℕ). listed (d .kinds) ++ k ∷ []) (c .code-code .ensures))) (still-few (c .args .family) g (listed (d .kinds)) _ few h) in
-    (of-code Key (d .«few_keys»), (of-code Count (d .«few_counts»), (of-code Tier (d .«few_tiers»), (d .counted,
-    (subst (λ (ks : List ℕ). T (every (gate-sound (d .regions) ks (listed (d .words))) (listed (d .gates)))) (sym ek) (gates-grow grown (listed (d .gates)) (d .«gates_lead»)),
-    (subst (λ (ks : List ℕ). T (every (place-sound (d .regions) ks (listed (d .words))) (listed (d .places)))) (sym ek) (places-grow grown (listed (d .places)) (d .«places_lie»)),
-    (subst (λ (ks : List ℕ). T (goal-sound ks (listed (d .words)) (d .goal))) (sym ek) (goal-grows grown (d .goal) (d .«goal_kept»)),
-    (subst (λ (ks : List ℕ). T (every (of-kinds ks) (listed (d .pool)))) (sym ek) (every-weaker _ _ (grown .more-kinds) (listed (d .pool)) (d .«pool_known»)),
-    (subst (λ (ks : List ℕ). T (every (of-kinds ks) (listed (d .stock)))) (sym ek) (every-weaker _ _ (grown .more-kinds) (listed (d .stock)) (d .«stock_known»)),
-    (d .«a_chain_each», (d .«chains_start», (d .«chains_go_on», tt))))))))))))
+    subst (λ (ks : List ℕ). countBy (of-family g) ks ≤ 32) (sym (ek ∙ ap (λ (k : ℕ). listed (d .kinds) ++ k ∷ []) (c .code-code .ensures))) (still-few (c .args .family) g (listed (d .kinds)) _ few h) in (
+      of-code Key (d .«few_keys»),
+      (
+        of-code Count (d .«few_counts»),
+        (
+          of-code Tier (d .«few_tiers»),
+          (
+            d .counted,
+            (
+              subst (λ (ks : List ℕ). T (every (gate-sound (d .regions) ks (listed (d .words))) (listed (d .gates)))) (sym ek) (gates-grow grown (listed (d .gates)) (d .«gates_lead»)),
+              (
+                subst (λ (ks : List ℕ). T (every (place-sound (d .regions) ks (listed (d .words))) (listed (d .places)))) (sym ek) (places-grow grown (listed (d .places)) (d .«places_lie»)),
+                (
+                  subst (λ (ks : List ℕ). T (goal-sound ks (listed (d .words)) (d .goal))) (sym ek) (goal-grows grown (d .goal) (d .«goal_kept»)),
+                  (
+                    subst (λ (ks : List ℕ). T (every (of-kinds ks) (listed (d .pool)))) (sym ek) (every-weaker _ _ (grown .more-kinds) (listed (d .pool)) (d .«pool_known»)),
+                    (
+                      subst (λ (ks : List ℕ). T (every (of-kinds ks) (listed (d .stock)))) (sym ek) (every-weaker _ _ (grown .more-kinds) (listed (d .stock)) (d .«stock_known»)),
+                      (d .«a_chain_each», (d .«chains_start», (d .«chains_go_on», tt))),
+                    ),
+                  ),
+                ),
+              ),
+            ),
+          ),
+        ),
+      ),
+    )
 
 pub returns : need.returns
 unfolding draft-of
@@ -62,7 +82,7 @@ returns c =
     let yes : kind-fits (draft-of d) (c .args .family) ≡ _ = sym (c .if-not-has-room-for-kind .ensures tt ∙ fits-same d (c .args .family) _ (c .kinds-of-number .ensures)) in
     let coded : c .code-code .result ≡ new-code (draft-of d) (c .args .family) = c .code-code .ensures ∙ ap (code-of (c .args .family)) (c .kinds-of-number .ensures) in
     let ek : listed (c .push .last .self) ≡ listed (d .kinds) ++ new-code (draft-of d) (c .args .family) ∷ [] =
-        c .push .ensures .rows ∙ cond-true (c .push .result) _ _ (c .push .ensures .fits ∙ room .0) ∙ ap (λ (k : ℕ). listed (d .kinds) ++ k ∷ []) coded in
+    c .push .ensures .rows ∙ cond-true (c .push .result) _ _ (c .push .ensures .fits ∙ room .0) ∙ ap (λ (k : ℕ). listed (d .kinds) ++ k ∷ []) coded in
     record {
       answer = ap Ok coded ∙ sym (cond-true (kind-fits (draft-of d) (c .args .family)) _ _ yes);
       draft = ap (λ (ks : List ℕ). atlas (d .regions) ks (listed (d .gates)) (listed (d .places)) (listed (d .words)) (listed (d .pool)) (listed (d .stock)) (d .goal)) ek

@@ -27,13 +27,28 @@ ghost-self c =
     let q : Place = record { region = c .args .region; rule = part } in
     let ep = joined-on (listed (d .places)) (q ∷ []) (listed (c .push .last .self)) (c .push .result) _ (c .push .ensures .fits) (t .1 .roomy) (c .push .ensures .rows) in
     let ew = joined-on (listed (d .words)) rule (listed (c .extend .last .self)) (c .extend .result) _ (c .extend .ensures .fits) (t .1 .behind) (c .extend .ensures .rows) in
-    let sound = and-from (ltb (c .args .region) (d .regions)) _ (t .0) (part-sound (listed (d .kinds)) (listed (d .words)) rule part s l (t .1 .proper)) in
-    (d .«few_keys», (d .«few_counts», (d .«few_tiers»,
-    (back (λ (qs : List Place) (ws : List RuleWord). words-of (listed (d .gates)) qs (d .goal) ≡ length ws) ep ew (counted-with-place d rule part s l q refl),
-    (subst (λ (ws : List RuleWord). T (every (gate-sound (d .regions) (listed (d .kinds)) ws) (listed (d .gates)))) (sym ew) (gates-lead d rule part s l),
-    (back (λ (qs : List Place) (ws : List RuleWord). T (every (place-sound (d .regions) (listed (d .kinds)) ws) qs)) ep ew (every-push (place-sound (d .regions) (listed (d .kinds)) (listed (d .words) ++ rule)) (listed (d .places)) q (places-lie d rule part s l) sound),
-    (subst (λ (ws : List RuleWord). T (goal-sound (listed (d .kinds)) ws (d .goal))) (sym ew) (goal-kept d rule part s l),
-    (d .«pool_known», (d .«stock_known», (d .«a_chain_each», (d .«chains_start», (d .«chains_go_on», tt))))))))))))
+    let sound = and-from (ltb (c .args .region) (d .regions)) _ (t .0) (part-sound (listed (d .kinds)) (listed (d .words)) rule part s l (t .1 .proper)) in (
+      d .«few_keys»,
+      (
+        d .«few_counts»,
+        (
+          d .«few_tiers»,
+          (
+            back (λ (qs : List Place) (ws : List RuleWord). words-of (listed (d .gates)) qs (d .goal) ≡ length ws) ep ew (counted-with-place d rule part s l q refl),
+            (
+              subst (λ (ws : List RuleWord). T (every (gate-sound (d .regions) (listed (d .kinds)) ws) (listed (d .gates)))) (sym ew) (gates-lead d rule part s l),
+              (
+                back (λ (qs : List Place) (ws : List RuleWord). T (every (place-sound (d .regions) (listed (d .kinds)) ws) qs)) ep ew (every-push (place-sound (d .regions) (listed (d .kinds)) (listed (d .words) ++ rule)) (listed (d .places)) q (places-lie d rule part s l) sound),
+                (
+                  subst (λ (ws : List RuleWord). T (goal-sound (listed (d .kinds)) ws (d .goal))) (sym ew) (goal-kept d rule part s l),
+                  (d .«pool_known», (d .«stock_known», (d .«a_chain_each», (d .«chains_start», (d .«chains_go_on», tt))))),
+                ),
+              ),
+            ),
+          ),
+        ),
+      ),
+    )
 
 pub returns : need.returns
 unfolding draft-of

@@ -23,15 +23,40 @@ pub ghost-self : need.ghost-self
 ghost-self c =
     let d = c .args .self .now in
     let grown = region-more (d .regions) (listed (d .kinds)) (listed (d .words)) in
-    let el = joined-on (listed (d .latest)) (0 ∷ []) (listed (c .push .last .self)) (c .push .result) _ (c .push .ensures .fits) (le→leb _ _ (omega (arith, c .if-region-ge64 .left, d .«a_chain_each»))) (c .push .ensures .rows) in
-    (d .«few_keys», (d .«few_counts», (d .«few_tiers», (d .counted,
-    (gates-grow grown (listed (d .gates)) (d .«gates_lead»),
-    (places-grow grown (listed (d .places)) (d .«places_lie»),
-    (goal-grows grown (d .goal) (d .«goal_kept»),
-    (d .«pool_known», (d .«stock_known»,
-    (ap length el ∙ length-append (listed (d .latest)) (0 ∷ []) ∙ ap (λ (n : ℕ). n + 1) (d .«a_chain_each»),
-    (subst (λ (ls : List ℕ). (r : ℕ) → r < d .regions + 1 → getD ls r 0 ≡ last-leaving (listed (d .gates)) r (length (listed (d .gates)))) (sym el) (new-chain (d .regions) (listed (d .kinds)) (listed (d .words)) (listed (d .gates)) (listed (d .latest)) (d .«gates_lead») (d .«a_chain_each») (d .«chains_start»)),
-    (d .«chains_go_on», tt))))))))))))
+    let el = joined-on (listed (d .latest)) (0 ∷ []) (listed (c .push .last .self)) (c .push .result) _ (c .push .ensures .fits) (le→leb _ _ (omega (arith, c .if-region-ge64 .left, d .«a_chain_each»))) (c .push .ensures .rows) in (
+      d .«few_keys»,
+      (
+        d .«few_counts»,
+        (
+          d .«few_tiers»,
+          (
+            d .counted,
+            (
+              gates-grow grown (listed (d .gates)) (d .«gates_lead»),
+              (
+                places-grow grown (listed (d .places)) (d .«places_lie»),
+                (
+                  goal-grows grown (d .goal) (d .«goal_kept»),
+                  (
+                    d .«pool_known»,
+                    (
+                      d .«stock_known»,
+                      (
+                        ap length el ∙ length-append (listed (d .latest)) (0 ∷ []) ∙ ap (λ (n : ℕ). n + 1) (d .«a_chain_each»),
+                        (
+                          subst (λ (ls : List ℕ). (r : ℕ) → r < d .regions + 1 → getD ls r 0 ≡ last-leaving (listed (d .gates)) r (length (listed (d .gates)))) (sym el) (new-chain (d .regions) (listed (d .kinds)) (listed (d .words)) (listed (d .gates)) (listed (d .latest)) (d .«gates_lead») (d .«a_chain_each») (d .«chains_start»)),
+                          (d .«chains_go_on», tt),
+                        ),
+                      ),
+                    ),
+                  ),
+                ),
+              ),
+            ),
+          ),
+        ),
+      ),
+    )
 
 pub returns : need.returns
 unfolding draft-of

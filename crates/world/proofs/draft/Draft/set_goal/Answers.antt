@@ -24,13 +24,28 @@ ghost-self c =
     let t = goal-taken d rule (sym (c .in-rest .is) ∙ c .goal-refusal .ensures) in
     let s = c .next-part-part .ensures .start in
     let l = c .next-part-part .ensures .len (rule-facts _ _ (t .1 .proper) .short) in
-    let ew = joined-on (listed (d .words)) rule (listed (c .extend .last .self)) (c .extend .result) _ (c .extend .ensures .fits) (t .1 .behind) (c .extend .ensures .rows) in
-    (d .«few_keys», (d .«few_counts», (d .«few_tiers»,
-    (subst (λ (ws : List RuleWord). words-of (listed (d .gates)) (listed (d .places)) part ≡ length ws) (sym ew) (counted-with-goal d rule part s l (t .0)),
-    (subst (λ (ws : List RuleWord). T (every (gate-sound (d .regions) (listed (d .kinds)) ws) (listed (d .gates)))) (sym ew) (gates-lead d rule part s l),
-    (subst (λ (ws : List RuleWord). T (every (place-sound (d .regions) (listed (d .kinds)) ws) (listed (d .places)))) (sym ew) (places-lie d rule part s l),
-    (subst (λ (ws : List RuleWord). T (goal-sound (listed (d .kinds)) ws part)) (sym ew) (sound-goal (listed (d .kinds)) (listed (d .words) ++ rule) part (part-sound (listed (d .kinds)) (listed (d .words)) rule part s l (t .1 .proper))),
-    (d .«pool_known», (d .«stock_known», (d .«a_chain_each», (d .«chains_start», (d .«chains_go_on», tt))))))))))))
+    let ew = joined-on (listed (d .words)) rule (listed (c .extend .last .self)) (c .extend .result) _ (c .extend .ensures .fits) (t .1 .behind) (c .extend .ensures .rows) in (
+      d .«few_keys»,
+      (
+        d .«few_counts»,
+        (
+          d .«few_tiers»,
+          (
+            subst (λ (ws : List RuleWord). words-of (listed (d .gates)) (listed (d .places)) part ≡ length ws) (sym ew) (counted-with-goal d rule part s l (t .0)),
+            (
+              subst (λ (ws : List RuleWord). T (every (gate-sound (d .regions) (listed (d .kinds)) ws) (listed (d .gates)))) (sym ew) (gates-lead d rule part s l),
+              (
+                subst (λ (ws : List RuleWord). T (every (place-sound (d .regions) (listed (d .kinds)) ws) (listed (d .places)))) (sym ew) (places-lie d rule part s l),
+                (
+                  subst (λ (ws : List RuleWord). T (goal-sound (listed (d .kinds)) ws part)) (sym ew) (sound-goal (listed (d .kinds)) (listed (d .words) ++ rule) part (part-sound (listed (d .kinds)) (listed (d .words)) rule part s l (t .1 .proper))),
+                  (d .«pool_known», (d .«stock_known», (d .«a_chain_each», (d .«chains_start», (d .«chains_go_on», tt))))),
+                ),
+              ),
+            ),
+          ),
+        ),
+      ),
+    )
 
 pub returns : need.returns
 unfolding draft-of
