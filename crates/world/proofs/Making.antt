@@ -22,10 +22,6 @@ use Rattle.world.proofs.Growing.{every-push}
 pub none-some : {A : Type 0} (why : BuildRefusal) → _≡_ {A = Option BuildRefusal} None (Some why) → A
 none-some why e = absurd (let z : _≡_ {A = ℕ} 0 1 = cc in omega arith)
 
--- what a call leaves that is not refused
-pub changed : (o : Option BuildRefusal) (after with-it before : Atlas) → None ≡ o → after ≡ with-it → after ≡ left o with-it before
-changed o after with-it before h e = e ∙ ap (λ x. left x with-it before) h
-
 -- rows behind a list that has room for them
 pub joined-on : {A : Type 0} (xs more ys : List A) (fits fitting : Bool) → fits ≡ fitting → T fitting → ys ≡ cond fits (xs ++ more) xs → ys ≡ xs ++ more
 joined-on xs more ys fits fitting e t h = h ∙ cond-true fits (xs ++ more) xs (e ∙ true-if fitting t)
@@ -41,18 +37,20 @@ item-cases true false no-kind no-room e = none-some no-room e
 item-cases false room no-kind no-room e = none-some no-kind e
 
 -- an item that is taken into a list of at most some
-pub record Listed-now (kinds xs ys : List ℕ) (code most : ℕ) : Type 0 where
-  pub decided : None ≡ item-refusal kinds (ltb (length xs) most) code
+pub record Listed-now (kinds xs ys : List ℕ) (code : ℕ) : Type 0 where
   pub known : T (of-kinds kinds code)
   pub pushed : ys ≡ xs ++ code ∷ []
 
-pub item-listed : (kinds xs ys : List ℕ) (code most n : ℕ) (fits : Bool) (o : Option BuildRefusal)
-    → n ≡ length xs → o ≡ None → o ≡ item-refusal kinds (ltb n most) code → fits ≡ ltb (length xs) most → ys ≡ cond fits (xs ++ code ∷ []) xs
-    → Listed-now kinds xs ys code most
-item-listed kinds xs ys code most n fits o size none said fitting rows =
-    let decided : None ≡ item-refusal kinds (ltb (length xs) most) code = sym none ∙ said ∙ ap (λ k. item-refusal kinds (ltb k most) code) size in
-    let facts = item-cases (of-kinds kinds code) (ltb (length xs) most) _ _ decided in
-    record { decided = decided; known = facts .0; pushed = joined-on xs (code ∷ []) ys fits (ltb (length xs) most) fitting (facts .1) rows }
+pub item-listed : (kinds xs ys : List ℕ) (code most : ℕ) (fits : Bool) → item-refusal kinds (ltb (length xs) most) code ≡ None → fits ≡ ltb (length xs) most → ys ≡ cond fits (xs ++ code ∷ []) xs
+    → Listed-now kinds xs ys code
+item-listed kinds xs ys code most fits none fitting rows =
+    let facts = item-cases (of-kinds kinds code) (ltb (length xs) most) _ _ (sym none) in
+    record { known = facts .0; pushed = joined-on xs (code ∷ []) ys fits (ltb (length xs) most) fitting (facts .1) rows }
+
+-- what is known where a single test decides
+pub fits-cases : (b : Bool) (why : BuildRefusal) → cond b None (Some why) ≡ None → T b
+fits-cases true why e = tt
+fits-cases false why e = none-some why (sym e)
 
 -- what is known of a rule that is not refused
 rule-cases : (a b c : Bool) (x y z : BuildRefusal) → None ≡ cond a (cond b (cond c None (Some x)) (Some y)) (Some z) → T a × (T b × T c)

@@ -55,6 +55,12 @@ kind-fits w family = ltb (length (w .kinds)) 64 && ltb (kinds-of w family) 32
 abbrev pub new-code : World → Family → ℕ
 new-code w family = code-of family (kinds-of w family)
 
+abbrev pub kind-refusal : World → Family → Option BuildRefusal
+kind-refusal w family = cond (kind-fits w family) None (Some Full)
+
+abbrev pub region-refusal : World → Option BuildRefusal
+region-refusal w = cond (ltb (w .regions) 64) None (Some Full)
+
 -- whether a rule finds room: in the table of its row, for itself, and behind the words there are already
 abbrev pub rule-fits : Bool → ℕ → List RuleWord → Bool
 rule-fits room words rule = room && (leb (length rule) 32 && leb (words + length rule) 4096)
@@ -102,6 +108,11 @@ stock-refusal w code = item-refusal (w .kinds) (ltb (length (w .stock)) 32) code
 abbrev pub told : Option BuildRefusal → Result (Unit {0}) BuildRefusal
 told None = Ok tt
 told (Some why) = Err why
+
+-- the answer of a call that gives a number
+abbrev pub numbered : Option BuildRefusal → ℕ → Result ℕ BuildRefusal
+numbered None n = Ok n
+numbered (Some why) n = Err why
 
 -- what is left: the changed world where the call is not refused
 abbrev pub left : Option BuildRefusal → World → World → World

@@ -17,6 +17,7 @@ use model::RuleWord;
 
 mod checks;
 mod makes;
+mod puts;
 mod reads;
 
 #[derive(Drop)]

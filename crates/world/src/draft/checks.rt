@@ -7,7 +7,7 @@ ghost use lib.ListN.{length};
 ghost use Rattle.std.specs.shelf.Lists.{countBy};
 ghost use Rattle.model.specs.Marks.{every};
 ghost use Rattle.model.specs.Proper.{«of-kinds», «of-family», «names-kinds»};
-ghost use Rattle.world.specs.Building.{«rule-fits», «rule-refusal», «gate-refusal», «place-refusal», «goal-refusal», «item-refusal», complete};
+ghost use Rattle.world.specs.Building.{«rule-fits», «rule-refusal», «gate-refusal», «place-refusal», «goal-refusal», «item-refusal», «region-refusal», «kind-refusal», «pool-refusal», «stock-refusal», complete};
 ghost use Rattle.world.specs.Listed.{listed};
 ghost use Rattle.world.specs.Worlds.{«draft-of»};
 use super::Draft;
@@ -92,7 +92,7 @@ impl Draft {
     }
 
     // Why a rule is not taken in, where its table has room or not.
-    pub(super) fn rule_refusal(&self, room: bool, rule: &[RuleWord]) -> Option<BuildRefusal>
+    fn rule_refusal(&self, room: bool, rule: &[RuleWord]) -> Option<BuildRefusal>
         ensures { λ r. ⌜ r ≡ «rule-refusal» (listed (now (self .entry) .kinds)) (length (listed (now (self .entry) .words))) room (now (rule .entry)) ⌝ }
     {
         if !is_formed(rule) {
@@ -109,7 +109,7 @@ impl Draft {
     }
 
     // Why an item is not taken in, where its list has room or not.
-    pub(super) fn item_refusal(&self, room: bool, code: u16) -> Option<BuildRefusal>
+    fn item_refusal(&self, room: bool, code: u16) -> Option<BuildRefusal>
         ensures { λ r. ⌜ r ≡ «item-refusal» (listed (now (self .entry) .kinds)) room code ⌝ }
     {
         if !self.has_kind(code) {
@@ -126,7 +126,7 @@ impl Draft {
     }
 
     // Whether there is room for one kind more, of a family that has this many.
-    pub(super) fn has_room_for_kind(&self, number: u8) -> bool
+    fn has_room_for_kind(&self, number: u8) -> bool
         ensures { λ r. ⌜ r ≡ (ltb (length (listed (now (self .entry) .kinds))) 64 && ltb number 32) ⌝ }
     {
         self.kinds.len() < 64 && number < 32
@@ -189,6 +189,43 @@ impl Draft {
         } else {
             None
         }
+    }
+
+    // Why no region is taken in.
+    pub(super) fn region_refusal(&self) -> Option<BuildRefusal>
+        ensures { λ r. ⌜ r ≡ «region-refusal» («draft-of» (now (self .entry))) ⌝ }
+    {
+        if self.regions < 64 {
+            None
+        } else {
+            Some(BuildRefusal::Full)
+        }
+    }
+
+    // Why no kind of a family is taken in.
+    pub(super) fn kind_refusal(&self, family: Family) -> Option<BuildRefusal>
+        ensures { λ r. ⌜ r ≡ «kind-refusal» («draft-of» (now (self .entry))) family ⌝ }
+    {
+        let number = self.kinds_of(family);
+        if self.has_room_for_kind(number) {
+            None
+        } else {
+            Some(BuildRefusal::Full)
+        }
+    }
+
+    // Why an item is not taken into the pool.
+    pub(super) fn pool_refusal(&self, code: u16) -> Option<BuildRefusal>
+        ensures { λ r. ⌜ r ≡ «pool-refusal» («draft-of» (now (self .entry))) code ⌝ }
+    {
+        self.item_refusal(self.pool.len() < 256, code)
+    }
+
+    // Why an item is not taken into the stock.
+    pub(super) fn stock_refusal(&self, code: u16) -> Option<BuildRefusal>
+        ensures { λ r. ⌜ r ≡ «stock-refusal» («draft-of» (now (self .entry))) code ⌝ }
+    {
+        self.item_refusal(self.stock.len() < 32, code)
     }
 
     // Whether nothing is missing: a region at least, and the goal.

@@ -1,18 +1,11 @@
 // Making a draft, row by row; what is refused leaves it as it was.
 ghost use mathlib.Core.Path.{_≡_};
-ghost use mathlib.Core.Bool.{cond};
-ghost use lib.Dec.{ltb};
-ghost use lib.ListN.{length};
 ghost use Rattle.std.specs.Vec.{made};
-ghost use Rattle.std.specs.declared.result.Result.the-variants.{Ok, Err};
-ghost use Rattle.world.specs.declared.refusal.BuildRefusal.the-variants.{Full};
-ghost use Rattle.world.specs.Building.{nothing, told, left, «with-region», «with-kind», «kind-fits», «new-code», «with-item», «with-stock», «with-gate», «with-place», «with-goal», «gate-refusal», «place-refusal», «goal-refusal», «pool-refusal», «stock-refusal»};
+ghost use Rattle.world.specs.Building.{nothing, told, numbered, left, «new-code», «with-region», «with-kind», «with-item», «with-stock», «with-gate», «with-place», «with-goal», «region-refusal», «kind-refusal», «pool-refusal», «stock-refusal», «gate-refusal», «place-refusal», «goal-refusal»};
 ghost use Rattle.world.specs.Worlds.{«draft-of»};
 use super::Draft;
 use crate::refusal::BuildRefusal;
-use crate::rows::Gate;
 use crate::rows::Part;
-use crate::rows::Place;
 use crate::table::Table;
 use inventory::Family;
 use model::RuleWord;
@@ -62,30 +55,24 @@ impl Draft {
 
     // One region more; answers its number.
     pub fn add_region(&mut self) -> Result<u8, BuildRefusal>
-        ensures answer { λ r. ⌜ r ≡ cond (ltb («draft-of» (now (self .entry)) .regions) 64) (Ok («draft-of» (now (self .entry)) .regions)) (Err Full) ⌝ }
-        ensures draft { λ _. ⌜ «draft-of» (now (self .exit)) ≡ cond (ltb («draft-of» (now (self .entry)) .regions) 64) («with-region» («draft-of» (now (self .entry)))) («draft-of» (now (self .entry))) ⌝ }
+        ensures answer { λ r. ⌜ r ≡ numbered («region-refusal» («draft-of» (now (self .entry)))) («draft-of» (now (self .entry)) .regions) ⌝ }
+        ensures draft { λ _. ⌜ «draft-of» (now (self .exit)) ≡ left («region-refusal» («draft-of» (now (self .entry)))) («with-region» («draft-of» (now (self .entry)))) («draft-of» (now (self .entry))) ⌝ }
     {
-        let region = self.regions;
-        if region >= 64 {
-            return Err(BuildRefusal::Full);
+        if let Some(why) = self.region_refusal() {
+            return Err(why);
         }
-        let _ = self.latest.push(0);
-        self.regions = region + 1;
-        Ok(region)
+        Ok(self.put_region())
     }
 
     // One kind more of a family; answers its code.
     pub fn add_kind(&mut self, family: Family) -> Result<u16, BuildRefusal>
-        ensures answer { λ r. ⌜ r ≡ cond («kind-fits» («draft-of» (now (self .entry))) family) (Ok («new-code» («draft-of» (now (self .entry))) family)) (Err Full) ⌝ }
-        ensures draft { λ _. ⌜ «draft-of» (now (self .exit)) ≡ cond («kind-fits» («draft-of» (now (self .entry))) family) («with-kind» («draft-of» (now (self .entry))) («new-code» («draft-of» (now (self .entry))) family)) («draft-of» (now (self .entry))) ⌝ }
+        ensures answer { λ r. ⌜ r ≡ numbered («kind-refusal» («draft-of» (now (self .entry))) family) («new-code» («draft-of» (now (self .entry))) family) ⌝ }
+        ensures draft { λ _. ⌜ «draft-of» (now (self .exit)) ≡ left («kind-refusal» («draft-of» (now (self .entry))) family) («with-kind» («draft-of» (now (self .entry))) («new-code» («draft-of» (now (self .entry))) family)) («draft-of» (now (self .entry))) ⌝ }
     {
-        let number = self.kinds_of(family);
-        if !self.has_room_for_kind(number) {
-            return Err(BuildRefusal::Full);
+        if let Some(why) = self.kind_refusal(family) {
+            return Err(why);
         }
-        let code = family.code(number);
-        let _ = self.kinds.push(code);
-        Ok(code)
+        Ok(self.put_kind(family))
     }
 
     // One item more in the pool.
@@ -93,11 +80,10 @@ impl Draft {
         ensures answer { λ r. ⌜ r ≡ told («pool-refusal» («draft-of» (now (self .entry))) code) ⌝ }
         ensures draft { λ _. ⌜ «draft-of» (now (self .exit)) ≡ left («pool-refusal» («draft-of» (now (self .entry))) code) («with-item» («draft-of» (now (self .entry))) code) («draft-of» (now (self .entry))) ⌝ }
     {
-        let room = self.pool.len() < 256;
-        if let Some(why) = self.item_refusal(room, code) {
+        if let Some(why) = self.pool_refusal(code) {
             return Err(why);
         }
-        let _ = self.pool.push(code);
+        self.put_item(code);
         Ok(())
     }
 
@@ -106,11 +92,10 @@ impl Draft {
         ensures answer { λ r. ⌜ r ≡ told («stock-refusal» («draft-of» (now (self .entry))) code) ⌝ }
         ensures draft { λ _. ⌜ «draft-of» (now (self .exit)) ≡ left («stock-refusal» («draft-of» (now (self .entry))) code) («with-stock» («draft-of» (now (self .entry))) code) («draft-of» (now (self .entry))) ⌝ }
     {
-        let room = self.stock.len() < 32;
-        if let Some(why) = self.item_refusal(room, code) {
+        if let Some(why) = self.stock_refusal(code) {
             return Err(why);
         }
-        let _ = self.stock.push(code);
+        self.put_stock(code);
         Ok(())
     }
 
@@ -122,17 +107,7 @@ impl Draft {
         if let Some(why) = self.gate_refusal(near, far, rule) {
             return Err(why);
         }
-        let part = self.next_part(rule);
-        let number = self.gates.len() as u16 + 1;
-        let earlier = self.latest.get_or(near as usize, 0);
-        let _ = self.words.extend(rule);
-        let _ = self.gates.push(Gate {
-            near,
-            far,
-            rule: part,
-            earlier,
-        });
-        self.latest.replace(near as usize, number);
+        self.put_gate(near, far, rule);
         Ok(())
     }
 
@@ -144,9 +119,7 @@ impl Draft {
         if let Some(why) = self.place_refusal(region, rule) {
             return Err(why);
         }
-        let part = self.next_part(rule);
-        let _ = self.words.extend(rule);
-        let _ = self.places.push(Place { region, rule: part });
+        self.put_place(region, rule);
         Ok(())
     }
 
@@ -158,9 +131,7 @@ impl Draft {
         if let Some(why) = self.goal_refusal(rule) {
             return Err(why);
         }
-        let part = self.next_part(rule);
-        let _ = self.words.extend(rule);
-        self.goal = part;
+        self.put_goal(rule);
         Ok(())
     }
 }

@@ -1,18 +1,16 @@
 use mathlib.Core.Path.{_≡_, refl, ap, _∙_}
-use mathlib.Core.Bool.{true, cond}
 use mathlib.Core.List.{[], _∷_}
-use lib.Dec.{ltb}
 use Rattle.model.specs.declared.rule_word.RuleWord.the-variants.{Free}
 use Rattle.model.specs.Worlds.{World as Atlas, new-world}
 use Rattle.world.specs.declared.draft.Draft.{Draft}
-use Rattle.world.specs.Building.{nothing, complete, left, with-region, with-goal, goal-refusal}
+use Rattle.world.specs.Building.{nothing, complete, left, with-region, with-goal, region-refusal, goal-refusal}
 use Rattle.world.specs.Worlds.{draft-of, world-of}
 use Rattle.world.proofs.Finished.{finished}
 use Rattle.world.proofs.world.World.new.Needs as need
 
 -- what the two calls leave of nothing
 abbrev region-on : Atlas → Atlas
-region-on w = cond (ltb (w .regions) 64) (with-region w) w
+region-on w = left (region-refusal w) (with-region w) w
 
 abbrev goal-on : Atlas → Atlas
 goal-on w = left (goal-refusal w (Free ∷ [])) (with-goal w (Free ∷ [])) w

@@ -7,21 +7,20 @@ use Rattle.model.specs.Marks.{every}
 use Rattle.model.proofs.Sets.{and-from}
 use Rattle.model.proofs.Limits.{rule-facts}
 use Rattle.world.specs.declared.rows.Place.{Place}
-use Rattle.world.specs.Building.{told, left, place-refusal, with-place}
 use Rattle.world.specs.Listed.{listed}
 use Rattle.world.specs.Rows.{atlas, gate-sound, place-sound, goal-sound, words-of}
 use Rattle.world.specs.Worlds.{draft-of}
 use Rattle.world.proofs.Adding.{place-taken, place-added, part-sound, gates-lead, places-lie, goal-kept, counted-with-place}
 use Rattle.world.proofs.Growing.{every-push}
-use Rattle.world.proofs.Making.{back, changed, joined-on}
-use Rattle.world.proofs.draft.Draft.add_place.Needs as need
+use Rattle.world.proofs.Making.{back, joined-on}
+use Rattle.world.proofs.draft.Draft.put_place.Needs as need
 
 pub ghost-self : need.ghost-self
 ghost-self c =
     let d = c .args .self .now in
     let rule = c .args .rule .now in
     let part = c .next-part-part .result in
-    let t = place-taken d rule (c .args .region) (sym (c .in-rest .is) ∙ c .place-refusal .ensures) in
+    let t = place-taken d rule (c .args .region) (sym (c .pre)) in
     let s = c .next-part-part .ensures .start in
     let l = c .next-part-part .ensures .len (rule-facts _ _ (t .1 .proper) .short) in
     let q : Place = record { region = c .args .region; rule = part } in
@@ -56,16 +55,12 @@ returns c =
     let d = c .args .self .now in
     let rule = c .args .rule .now in
     let part = c .next-part-part .result in
-    let e = sym (c .in-rest .is) ∙ c .place-refusal .ensures in
+    let e = sym (c .pre) in
     let t = place-taken d rule (c .args .region) e in
     let s = c .next-part-part .ensures .start in
     let l = c .next-part-part .ensures .len (rule-facts _ _ (t .1 .proper) .short) in
     let q : Place = record { region = c .args .region; rule = part } in
     let ep = joined-on (listed (d .places)) (q ∷ []) (listed (c .push .last .self)) (c .push .result) _ (c .push .ensures .fits) (t .1 .roomy) (c .push .ensures .rows) in
     let ew = joined-on (listed (d .words)) rule (listed (c .extend .last .self)) (c .extend .result) _ (c .extend .ensures .fits) (t .1 .behind) (c .extend .ensures .rows) in
-    record {
-      answer = ap told e;
-      draft = changed (place-refusal (draft-of d) (c .args .region) rule) _ (with-place (draft-of d) (record { region = c .args .region; rule = rule })) (draft-of d) e
-          (ap₂ (λ (qs : List Place) (ws : List RuleWord). atlas (d .regions) (listed (d .kinds)) (listed (d .gates)) qs ws (listed (d .pool)) (listed (d .stock)) (d .goal)) ep ew
-          ∙ place-added d rule part s l (c .args .region) q refl);
-    }
+    ap₂ (λ (qs : List Place) (ws : List RuleWord). atlas (d .regions) (listed (d .kinds)) (listed (d .gates)) qs ws (listed (d .pool)) (listed (d .stock)) (d .goal)) ep ew
+    ∙ place-added d rule part s l (c .args .region) q refl

@@ -18,30 +18,21 @@ use Rattle.model.specs.Worlds.{World as Atlas}
 use Rattle.model.proofs.Sets.{true-if}
 use Rattle.world.specs.declared.draft.Draft.{Draft}
 use Rattle.world.specs.Listed.{listed}
-use Rattle.world.specs.Building.{kind-fits, new-code, with-kind}
+use Rattle.world.specs.Building.{kind-fits, new-code}
 use Rattle.world.specs.Rows.{atlas, gate-sound, place-sound, goal-sound}
 use Rattle.world.specs.Worlds.{draft-of}
 use Rattle.world.proofs.Counting.{still-few}
+use Rattle.world.proofs.Making.{fits-cases}
 use Rattle.world.proofs.Growing.{kind-more, every-weaker, gates-grow, places-grow, goal-grows}
-use Rattle.world.proofs.draft.Draft.add_kind.Needs as need
-
--- whether a kind fits, by the count that the code takes
-fits-same : (d : Draft) (f : Family) (n : ℕ) → n ≡ countBy (of-family f) (listed (d .kinds)) → (ltb (length (listed (d .kinds))) 64 && ltb n 32) ≡ kind-fits (draft-of d) f
-unfolding draft-of
-fits-same d f n e = ap (λ (k : ℕ). ltb (length (listed (d .kinds))) 64 && ltb k 32) e
-
-pub returns-then-not-has-room-for-kind : need.returns-then-not-has-room-for-kind
-returns-then-not-has-room-for-kind c =
-    let d = c .args .self .now in
-    let no = sym (c .if-not-has-room-for-kind .ensures tt ∙ fits-same d (c .args .family) _ (c .kinds-of-number .ensures)) in
-    record { answer = sym (cond-false (kind-fits (draft-of d) (c .args .family)) _ _ no); draft = sym (cond-false (kind-fits (draft-of d) (c .args .family)) _ _ no) }
+use Rattle.world.proofs.draft.Draft.put_kind.Needs as need
 
 pub ghost-self : need.ghost-self
+unfolding draft-of
 ghost-self c =
     let d = c .args .self .now in
-    let room = and-parts (ltb (length (listed (d .kinds))) 64) _ (sym (c .if-not-has-room-for-kind .ensures tt)) in
+    let room = and-parts (ltb (length (listed (d .kinds))) 64) _ (true-if _ (fits-cases (kind-fits (draft-of d) (c .args .family)) _ (c .pre))) in
     let code = c .code-code .result in
-    let few : countBy (of-family (c .args .family)) (listed (d .kinds)) < 32 = subst (λ (n : ℕ). n < 32) (c .kinds-of-number .ensures) (ltb-true _ _ (room .1)) in
+    let few : countBy (of-family (c .args .family)) (listed (d .kinds)) < 32 = ltb-true _ _ (room .1) in
     let ek : listed (c .push .last .self) ≡ listed (d .kinds) ++ code ∷ [] = c .push .ensures .rows ∙ cond-true (c .push .result) _ _ (c .push .ensures .fits ∙ room .0) in
     let grown = kind-more (d .regions) (listed (d .kinds)) code (listed (d .words)) in
     let of-code : (g : Family) → countBy (of-family g) (listed (d .kinds)) ≤ 32 → countBy (of-family g) (listed (c .push .last .self)) ≤ 32 = λ g h.
@@ -78,13 +69,11 @@ pub returns : need.returns
 unfolding draft-of
 returns c =
     let d = c .args .self .now in
-    let room = and-parts (ltb (length (listed (d .kinds))) 64) _ (sym (c .if-not-has-room-for-kind .ensures tt)) in
-    let yes : kind-fits (draft-of d) (c .args .family) ≡ _ = sym (c .if-not-has-room-for-kind .ensures tt ∙ fits-same d (c .args .family) _ (c .kinds-of-number .ensures)) in
+    let room = and-parts (ltb (length (listed (d .kinds))) 64) _ (true-if _ (fits-cases (kind-fits (draft-of d) (c .args .family)) _ (c .pre))) in
     let coded : c .code-code .result ≡ new-code (draft-of d) (c .args .family) = c .code-code .ensures ∙ ap (code-of (c .args .family)) (c .kinds-of-number .ensures) in
     let ek : listed (c .push .last .self) ≡ listed (d .kinds) ++ new-code (draft-of d) (c .args .family) ∷ [] =
     c .push .ensures .rows ∙ cond-true (c .push .result) _ _ (c .push .ensures .fits ∙ room .0) ∙ ap (λ (k : ℕ). listed (d .kinds) ++ k ∷ []) coded in
     record {
-      answer = ap Ok coded ∙ sym (cond-true (kind-fits (draft-of d) (c .args .family)) _ _ yes);
-      draft = ap (λ (ks : List ℕ). atlas (d .regions) ks (listed (d .gates)) (listed (d .places)) (listed (d .words)) (listed (d .pool)) (listed (d .stock)) (d .goal)) ek
-          ∙ sym (cond-true (kind-fits (draft-of d) (c .args .family)) _ _ yes);
+      code = coded;
+      draft = ap (λ (ks : List ℕ). atlas (d .regions) ks (listed (d .gates)) (listed (d .places)) (listed (d .words)) (listed (d .pool)) (listed (d .stock)) (d .goal)) ek;
     }

@@ -8,20 +8,19 @@ use Rattle.std.proofs.shelf.Tests.{cond-false}
 use Rattle.model.specs.declared.rule_word.RuleWord.{RuleWord}
 use Rattle.model.specs.Marks.{every}
 use Rattle.model.proofs.Limits.{rule-facts}
-use Rattle.world.specs.Building.{told, goal-refusal, with-goal}
 use Rattle.world.specs.Listed.{listed}
 use Rattle.world.specs.Rows.{atlas, gate-sound, place-sound, goal-sound, words-of}
 use Rattle.world.specs.Worlds.{draft-of}
 use Rattle.world.proofs.Adding.{goal-taken, goal-added, part-sound, sound-goal, gates-lead, places-lie, counted-with-goal}
-use Rattle.world.proofs.Making.{changed, joined-on}
-use Rattle.world.proofs.draft.Draft.set_goal.Needs as need
+use Rattle.world.proofs.Making.{joined-on}
+use Rattle.world.proofs.draft.Draft.put_goal.Needs as need
 
 pub ghost-self : need.ghost-self
 ghost-self c =
     let d = c .args .self .now in
     let rule = c .args .rule .now in
     let part = c .next-part-part .result in
-    let t = goal-taken d rule (sym (c .in-rest .is) ∙ c .goal-refusal .ensures) in
+    let t = goal-taken d rule (sym (c .pre)) in
     let s = c .next-part-part .ensures .start in
     let l = c .next-part-part .ensures .len (rule-facts _ _ (t .1 .proper) .short) in
     let ew = joined-on (listed (d .words)) rule (listed (c .extend .last .self)) (c .extend .result) _ (c .extend .ensures .fits) (t .1 .behind) (c .extend .ensures .rows) in (
@@ -53,14 +52,10 @@ returns c =
     let d = c .args .self .now in
     let rule = c .args .rule .now in
     let part = c .next-part-part .result in
-    let e = sym (c .in-rest .is) ∙ c .goal-refusal .ensures in
+    let e = sym (c .pre) in
     let t = goal-taken d rule e in
     let s = c .next-part-part .ensures .start in
     let l = c .next-part-part .ensures .len (rule-facts _ _ (t .1 .proper) .short) in
     let ew = joined-on (listed (d .words)) rule (listed (c .extend .last .self)) (c .extend .result) _ (c .extend .ensures .fits) (t .1 .behind) (c .extend .ensures .rows) in
-    record {
-      answer = ap told e;
-      draft = changed (goal-refusal (draft-of d) rule) _ (with-goal (draft-of d) rule) (draft-of d) e
-          (ap (λ (ws : List RuleWord). atlas (d .regions) (listed (d .kinds)) (listed (d .gates)) (listed (d .places)) ws (listed (d .pool)) (listed (d .stock)) part) ew
-          ∙ goal-added d rule part s l);
-    }
+    ap (λ (ws : List RuleWord). atlas (d .regions) (listed (d .kinds)) (listed (d .gates)) (listed (d .places)) ws (listed (d .pool)) (listed (d .stock)) part) ew
+    ∙ goal-added d rule part s l

@@ -10,22 +10,21 @@ use Rattle.model.specs.Worlds.{World as Atlas}
 use Rattle.model.proofs.Sets.{and-from}
 use Rattle.model.proofs.Limits.{rule-facts}
 use Rattle.world.specs.declared.rows.Gate.{Gate}
-use Rattle.world.specs.Building.{told, left, gate-refusal, with-gate}
 use Rattle.world.specs.Listed.{listed}
 use Rattle.world.specs.Rows.{atlas, gate-sound, place-sound, goal-sound, words-of, near-at, earlier-at, last-leaving}
 use Rattle.world.specs.Worlds.{draft-of, Chained}
 use Rattle.world.proofs.Adding.{gate-taken, gate-added, part-sound, gates-lead, places-lie, goal-kept, counted-with-gate}
 use Rattle.world.proofs.Chains.{chains-start, chains-go-on}
 use Rattle.world.proofs.Growing.{every-push}
-use Rattle.world.proofs.Making.{back, changed, joined-on}
-use Rattle.world.proofs.draft.Draft.add_gate.Needs as need
+use Rattle.world.proofs.Making.{back, joined-on}
+use Rattle.world.proofs.draft.Draft.put_gate.Needs as need
 
 pub ghost-self : need.ghost-self
 ghost-self c =
     let d = c .args .self .now in
     let rule = c .args .rule .now in
     let part = c .next-part-part .result in
-    let t = gate-taken d rule (c .args .near) (c .args .far) (sym (c .in-rest .is) ∙ c .gate-refusal .ensures) in
+    let t = gate-taken d rule (c .args .near) (c .args .far) (sym (c .pre)) in
     let s = c .next-part-part .ensures .start in
     let l = c .next-part-part .ensures .len (rule-facts _ _ (t .1 .proper) .short) in
     let g : Gate = record { near = c .args .near; far = c .args .far; rule = part; earlier = c .get-or-earlier .result } in
@@ -75,16 +74,12 @@ returns c =
     let d = c .args .self .now in
     let rule = c .args .rule .now in
     let part = c .next-part-part .result in
-    let e = sym (c .in-rest .is) ∙ c .gate-refusal .ensures in
+    let e = sym (c .pre) in
     let t = gate-taken d rule (c .args .near) (c .args .far) e in
     let s = c .next-part-part .ensures .start in
     let l = c .next-part-part .ensures .len (rule-facts _ _ (t .1 .proper) .short) in
     let g : Gate = record { near = c .args .near; far = c .args .far; rule = part; earlier = c .get-or-earlier .result } in
     let eg = joined-on (listed (d .gates)) (g ∷ []) (listed (c .push .last .self)) (c .push .result) _ (c .push .ensures .fits) (t .1 .roomy) (c .push .ensures .rows) in
     let ew = joined-on (listed (d .words)) rule (listed (c .extend .last .self)) (c .extend .result) _ (c .extend .ensures .fits) (t .1 .behind) (c .extend .ensures .rows) in
-    record {
-      answer = ap told e;
-      draft = changed (gate-refusal (draft-of d) (c .args .near) (c .args .far) rule) _ (with-gate (draft-of d) (record { near = c .args .near; far = c .args .far; rule = rule })) (draft-of d) e
-          (ap₂ (λ (gs : List Gate) (ws : List RuleWord). atlas (d .regions) (listed (d .kinds)) gs (listed (d .places)) ws (listed (d .pool)) (listed (d .stock)) (d .goal)) eg ew
-          ∙ gate-added d rule part s l (c .args .near) (c .args .far) (c .get-or-earlier .result) g refl);
-    }
+    ap₂ (λ (gs : List Gate) (ws : List RuleWord). atlas (d .regions) (listed (d .kinds)) gs (listed (d .places)) ws (listed (d .pool)) (listed (d .stock)) (d .goal)) eg ew
+    ∙ gate-added d rule part s l (c .args .near) (c .args .far) (c .get-or-earlier .result) g refl
