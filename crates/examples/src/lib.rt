@@ -1,4 +1,6 @@
 // The worked examples: shown of the definitions, and run as tests of the code.
+mod yard;
+
 ghost use mathlib.Core.Path.{_≡_};
 ghost use Rattle.std.specs.declared.result.Result.the-variants.{Ok};
 ghost use Rattle.examples.specs.Examples.{Examples};
@@ -9,6 +11,7 @@ use draw::SeededDraw;
 use inventory::Inventory;
 use inventory::LevelsInventory;
 use inventory::Tiers;
+pub use yard::world_a;
 
 // What the examples come to, by the definitions alone.
 pub fn examples_hold()

@@ -3,9 +3,9 @@ use mathlib.Core.Path.{refl}
 use Rattle.model.specs.Worlds.{widened, reached, opens}
 use Rattle.model.specs.Proper.{proper}
 use Rattle.model.specs.Placements.{gains, round, gathered, sphere}
-use Rattle.model.specs.Example.{Examples}
+use Rattle.model.specs.Example.{World-examples}
 
-pub examples : Examples
+pub examples : World-examples
 unfolding proper sphere gathered round gains opens reached widened
 examples = record {
   is-proper = tt;

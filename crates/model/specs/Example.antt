@@ -66,7 +66,7 @@ abbrev pub holding : List ℕ → of-worlds .Value
 holding codes = with-codes of-worlds (of-worlds .neutral) codes
 
 -- What is open with nothing, with a coin, and with lamp and coin; what the one placement gathers; the spheres of the other.
-pub record Examples : Type 0 where
+pub record World-examples : Type 0 where
   pub is-proper : T (proper world-a)
   pub with-nothing : opens of-worlds world-a (holding []) ≡ true ∷ false ∷ false ∷ []
   pub with-coin : opens of-worlds world-a (holding (coin ∷ [])) ≡ true ∷ true ∷ false ∷ []

@@ -1,5 +1,4 @@
 // What is shown of worlds: each function's contract is a statement, and the function does nothing else.
-ghost use Rattle.model.specs.Example.{Examples};
 ghost use Rattle.model.specs.Laws.{«Rule-laws», «Proper-laws», «Reach-laws», «Gather-laws», «Growth-laws», «Sphere-laws», «Whole-laws», «Table-laws»};
 use inventory::Inventory;
 
@@ -41,9 +40,4 @@ pub fn whole_placements_can_be_finished<I: Inventory>()
 // There is an answer for each region and each place, and a place is open where its region is reached and its rule met.
 pub fn each_place_has_its_answer<I: Inventory>()
     ensures { λ _. ⌜ «Table-laws» (I·Inventory .meaning) ⌝ }
-{}
-
-// The example world opens and gathers as a player finds it.
-pub fn examples_hold()
-    ensures { λ _. ⌜ Examples ⌝ }
 {}

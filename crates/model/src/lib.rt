@@ -3,7 +3,6 @@ mod laws;
 mod rule_word;
 
 pub use laws::each_place_has_its_answer;
-pub use laws::examples_hold;
 pub use laws::gathered_places_are_least;
 pub use laws::more_items_close_nothing;
 pub use laws::proper_worlds_keep_the_limits;
