@@ -1,0 +1,31 @@
+// What is open in a world, what is gathered from a placement, and in which sphere.
+mod asks;
+mod few_marks;
+mod gather;
+mod items;
+mod places;
+mod reach;
+mod rules;
+mod spheres;
+mod values;
+mod whole;
+
+pub use asks::ask_finishable;
+pub use asks::ask_gathered;
+pub use asks::ask_open;
+pub use asks::ask_sphere;
+pub use asks::ask_whole;
+pub use few_marks::FewMarks;
+pub use few_marks::FewMarksDebug;
+pub use few_marks::FewMarksEq;
+pub use few_marks::FewMarksPartialEq;
+pub use gather::mark_gathered;
+pub use places::mark_finishable;
+pub use places::mark_open;
+pub use reach::mark_reached;
+pub use rules::goal_met;
+pub use rules::meets_rule;
+pub use spheres::sphere;
+pub use values::add_pool;
+pub use values::stock_value;
+pub use whole::is_whole;
