@@ -1,7 +1,10 @@
-// Deals items in drawn order into a world's inventory, and prints each step.
+// Walks through the example world, then deals items in drawn order into an inventory; prints each step.
 mod fault;
 mod item;
+mod names;
 mod request;
+mod tables;
+mod tour;
 
 use draw::BadSourceDisplay;
 use draw::DrawSource;
@@ -9,6 +12,7 @@ use draw::SeededDraw;
 use draw::Tape;
 use draw::TapeDraw;
 use draw::deal;
+use examples::world_a;
 use fault::FaultDisplay;
 use inventory::Family;
 use inventory::Inventory;
@@ -23,6 +27,8 @@ use request::Request;
 use std::error::AnyError;
 use std::io;
 use std::io::Read;
+use tables::print_tables;
+use tour::print_tour;
 
 fn print_standing(rt: &LibcRuntime, held: &WorldInventory, item: Item) -> io::Result<()> {
     let number = u16::from(item.number);
@@ -78,6 +84,9 @@ fn serve(rt: &LibcRuntime, request: Request) -> io::Result<()> {
 }
 
 fn run(rt: &LibcRuntime) -> Result<(), AnyError> {
+    let world = world_a(rt.alloc())?;
+    print_tables(rt, &world)?;
+    print_tour(rt, &world)?;
     let mut bytes = Vec::new(rt.alloc());
     rt.stdin().read_to_end(&mut bytes)?;
     match request::read(rt.alloc(), bytes.as_slice()) {
