@@ -43,3 +43,5 @@ pub fn first_of_ten() -> Result<u16, BadSource>
 mod inventories;
 #[cfg(test)]
 mod sources;
+#[cfg(test)]
+mod worlds;

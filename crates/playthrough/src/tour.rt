@@ -1,6 +1,7 @@
 // Walks through a world: what is open, and what a placement gathers, sphere by sphere.
 use crate::names::kind_name;
 use crate::names::place_name;
+use explore::FewMarksPartialEq;
 use explore::ask_finishable;
 use explore::ask_open;
 use explore::ask_sphere;
@@ -12,7 +13,6 @@ use inventory::PairInventory;
 use inventory::WorldInventory;
 use std::io;
 use world::World;
-use explore::FewMarksPartialEq;
 
 // What lies at a place, by the name of its kind.
 fn item_name(world: &World, placement: &[Option<u16>], place: usize) -> &'static str {
