@@ -1,4 +1,3 @@
 pub mod Held
 pub mod Bytes
 pub mod Marks
-pub mod Example

@@ -1,5 +1,4 @@
 // Memory that a caller lends: a stack over a borrowed slice, and the work marks.
-pub mod example;
 mod marks;
 mod stack;
 
