@@ -38,30 +38,30 @@ pub open-read : (m : Meaning) (w : Atlas) (v : m .Value) (marks : Marks) (k : �
 open-read m w v marks k q h e known marked =
     ap (λ x. x && reads (held m v) (q .rule)) (sym (at-regions-in w marks (q .region) known) ∙ ap (λ s. at s (q .region)) marked) ∙ open-row m w v k q h e
 
--- what the code reads of the place k, which stands in a row
-module _ (m : Meaning) (world : World) (v : m .Value) (rows : List Place) (k : ℕ) (marks : Marks)
-    (same : map (spot world) rows ≡ world-of world .places) (known : All (Known-place world) rows) (h : k < length rows) (b : Bool) where
-  abbrev pub looked-at : Spot
-  looked-at = spot world (getD rows k no-place)
+-- the place of row k
+abbrev pub row-place : World → List Place → ℕ → Spot
+row-place world rows k = spot world (getD rows k no-place)
 
+module _ (world : World) (rows : List Place) (same : map (spot world) rows ≡ world-of world .places) (k : ℕ) (h : k < length rows) where
   pub is-place : k < length (world-of world .places)
   is-place = let many = as-many (spot world) rows (world-of world .places) same in omega arith
 
-  pub place-found : looked-at ≡ getD (world-of world .places) k looked-at
+  pub place-found : row-place world rows k ≡ getD (world-of world .places) k (row-place world rows k)
   place-found = row-found (spot world) rows (world-of world .places) k no-place same h
 
-  pub read-marks : b ≡ newly (held m v) k (getD rows k no-place .region) (rule-at world (getD rows k no-place .rule)) (regions marks) (places marks)
-      → b ≡ (not (at (places-in (world-of world) marks) k) && (at (regions marks) (looked-at .region) && reads (held m v) (looked-at .rule)))
-  unfolding spot rule-at
-  read-marks e = e ∙ ap (λ x. not x && (at (regions marks) (looked-at .region) && reads (held m v) (looked-at .rule))) (sym (at-places-in (world-of world) marks k is-place))
+  -- what the code reads of it
+  module _ (m : Meaning) (v : m .Value) (marks : Marks) (b : Bool) (e : b ≡ newly (held m v) k (getD rows k no-place .region) (rule-at world (getD rows k no-place .rule)) (regions marks) (places marks)) where
+    pub read-marks : (r : List Bool) → regions marks ≡ r → b ≡ (not (at (places-in (world-of world) marks) k) && (at r (row-place world rows k .region) && reads (held m v) (row-place world rows k .rule)))
+    unfolding spot rule-at
+    read-marks r is =
+        e ∙ ap (λ x. not x && (at (regions marks) (row-place world rows k .region) && reads (held m v) (row-place world rows k .rule))) (sym (at-places-in (world-of world) marks k is-place))
+        ∙ ap (λ x. not (at (places-in (world-of world) marks) k) && (at x (row-place world rows k .region) && reads (held m v) (row-place world rows k .rule))) is
 
-  pub read-open : regions-in (world-of world) marks ≡ reached m (world-of world) v
-      → b ≡ newly (held m v) k (getD rows k no-place .region) (rule-at world (getD rows k no-place .rule)) (regions marks) (places marks)
-      → b ≡ (not (at (places-in (world-of world) marks) k) && at (opens m (world-of world) v) k)
-  unfolding spot
-  read-open reached e =
-      read-marks e
-      ∙ ap (λ x. not (at (places-in (world-of world) marks) k) && x) (open-read m (world-of world) v marks k looked-at is-place place-found (all-getD (Known-place world) rows k no-place h known .region-known) reached)
+    pub read-open : All (Known-place world) rows → regions-in (world-of world) marks ≡ reached m (world-of world) v → b ≡ (not (at (places-in (world-of world) marks) k) && at (opens m (world-of world) v) k)
+    unfolding spot
+    read-open known reached =
+        read-marks (regions marks) refl
+        ∙ ap (λ x. not (at (places-in (world-of world) marks) k) && x) (open-read m (world-of world) v marks k (row-place world rows k) is-place place-found (all-getD (Known-place world) rows k no-place h known .region-known) reached)
 
 -- a place that does not open, and one that does
 pub not-newly : (b x : Bool) → (not b && x) ≡ false → T x → T b

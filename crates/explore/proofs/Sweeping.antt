@@ -1,9 +1,9 @@
 -- Gates crossed one after the other, and the search that they make up.
-use mathlib.Core.Path.{_≡_, refl, sym, ap, subst, _∙_}
-use mathlib.Core.Logic.{_⊎_, inl, inr}
+use mathlib.Core.Path.{_≡_, refl, sym, subst, _∙_}
+use mathlib.Core.Logic.{inl, inr}
 use mathlib.Core.List.{List, [], _∷_, _++_}
 use mathlib.Core.Bool.{Bool, true, false, not, cond}
-use Prim.Native.Nat.{ℕ, zero, suc, _+_, _<_, _≤_}
+use Prim.Native.Nat.{ℕ, zero, suc, _+_, _<_}
 use native.Mathlib.Omega.{arith}
 use lib.Dec.{T, eqb, eqb→eq, eqb-refl}
 use lib.ListN.{length, getD, set, take, replicate, length-set}
@@ -12,7 +12,7 @@ use Rattle.std.proofs.shelf.Tests.{and-parts, not-true, cases-eq}
 use Rattle.std.proofs.shelf.Lists.{getD-take, length-take-le}
 use Rattle.std.proofs.shelf.Elements.{all-getD}
 use Rattle.inventory.specs.Meaning.{Meaning, held}
-use Rattle.model.specs.Marks.{at, In, Sub, count, any}
+use Rattle.model.specs.Marks.{at, In, Sub, any}
 use Rattle.model.specs.Rules.{reads}
 use Rattle.model.specs.Worlds.{World as Atlas, Gate as Gateway, reached}
 use Rattle.model.specs.Proper.{Proper, Proper-gate}

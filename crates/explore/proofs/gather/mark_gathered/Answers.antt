@@ -1,7 +1,7 @@
-use mathlib.Core.Path.{_≡_, refl, sym, ap, subst, _∙_}
-use mathlib.Core.Bool.{true, false}
+use mathlib.Core.Path.{refl, sym, ap, subst, _∙_}
+use mathlib.Core.Bool.{true}
 use native.Mathlib.Omega.{arith}
-use lib.ListN.{length, set, take}
+use lib.ListN.{set, take}
 use Rattle.scratch.specs.Marks.{regions}
 use Rattle.scratch.proofs.Lengths.{length-regions}
 use Rattle.model.specs.Marks.{count}

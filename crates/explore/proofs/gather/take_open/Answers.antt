@@ -1,14 +1,13 @@
-use mathlib.Core.Path.{_≡_, refl, sym, ap, subst, _∙_}
-use mathlib.Core.Bool.{true, false, not, _&&_}
-use Prim.Native.Nat.{_<_, _+_}
+use mathlib.Core.Path.{_≡_, refl, sym, subst, _∙_}
+use mathlib.Core.Bool.{true, false, _&&_}
+use Prim.Native.Nat.{_<_}
 use native.Mathlib.Omega.{arith}
-use lib.Dec.{T}
 use lib.ListN.{length}
 use Rattle.std.proofs.shelf.Elements.{all-getD}
 use Rattle.std.proofs.shelf.Tests.{and-parts}
 use Rattle.inventory.specs.Meaning.{held}
 use Rattle.scratch.specs.Marks.{regions}
-use Rattle.model.specs.Marks.{at, In, count}
+use Rattle.model.specs.Marks.{at, count}
 use Rattle.model.specs.Rules.{reads}
 use Rattle.model.proofs.Sets.{and-from}
 use Rattle.world.specs.Worlds.{world-of, spot, Known-place}
@@ -16,7 +15,7 @@ use Rattle.explore.specs.Marked.{places-in}
 use Rattle.explore.specs.Gathering.{Ahead, Quiet}
 use Rattle.explore.proofs.Known.{true-T, no-place, proper-world, as-many, on-loan}
 use Rattle.explore.proofs.Marked.{length-places-in, places-in-set}
-use Rattle.explore.proofs.Opened.{looked-at, is-place, place-found, read-marks, not-newly, is-newly}
+use Rattle.explore.proofs.Opened.{row-place, is-place, place-found, read-marks, not-newly, is-newly}
 use Rattle.explore.proofs.Eagerly.{ahead-more, quiet-none, quiet-more, grew-more}
 use Rattle.explore.proofs.gather.take_open.Needs as need
 
@@ -34,19 +33,18 @@ loop-k-again-then-not-opens-now g c =
     let u = g .I·Inventory .value (c .loop-k .value) in
     let rows = c .places-place-items .result .now in
     let same = c .places-place-items .ensures .meaning in
-    let known = c .places-place-items .ensures .known in
     let h = c .loop-k-test .taken in
     let k = c .loop-k .k in
     let r = regions (c .args .marks .now) in
     let s = places-in w (c .loop-k .marks) in
     let inv = c .loop-k .inv in
-    let q = looked-at m world u rows k (c .loop-k .marks) same known h false in
-    let read = read-marks m world u rows k (c .loop-k .marks) same known h false (c .if-not-opens-now .ensures tt) ∙ ap (λ x. not (at s k) && (at x (q .region) && reads (held m u) (q .rule))) (inv .1) in (
+    let q = row-place world rows k in
+    let read = read-marks world rows same k h m u (c .loop-k .marks) false (c .if-not-opens-now .ensures tt) r (inv .1) in (
       inv .0,
       inv .1,
       inv .2,
       inv .3,
-      quiet-more m w (g .I·Inventory .value (c .args .value .now)) u r s k (c .loop-k .grew) (inv .4) q (is-place m world u rows k (c .loop-k .marks) same known h false) (place-found m world u rows k (c .loop-k .marks) same known h false)
+      quiet-more m w (g .I·Inventory .value (c .args .value .now)) u r s k (c .loop-k .grew) (inv .4) q (is-place world rows same k h) (place-found world rows same k h)
           (λ near met. not-newly (at s k) (at r (q .region) && reads (held m u) (q .rule)) (sym read) (and-from (at r (q .region)) _ near met)),
     )
 
@@ -60,25 +58,24 @@ loop-k-again g c =
     let u′ = g .I·Inventory .value (c .add-item .last .value) in
     let rows = c .places-place-items .result .now in
     let same = c .places-place-items .ensures .meaning in
-    let known = c .places-place-items .ensures .known in
     let h = c .loop-k-test .taken in
     let k = c .loop-k .k in
     let r = regions (c .args .marks .now) in
     let s = places-in w (c .loop-k .marks) in
     let inv = c .loop-k .inv in
     let e = c .mark-place .ensures in
-    let q = looked-at m world u rows k (c .loop-k .marks) same known h true in
-    let read = read-marks m world u rows k (c .loop-k .marks) same known h true (c .if-not-opens-now .ensures tt) ∙ ap (λ x. not (at s k) && (at x (q .region) && reads (held m u) (q .rule))) (inv .1) in
+    let q = row-place world rows k in
+    let read = read-marks world rows same k h m u (c .loop-k .marks) true (c .if-not-opens-now .ensures tt) r (inv .1) in
     let new = is-newly (at s k) (at r (q .region) && reads (held m u) (q .rule)) (sym read) in
     let met = and-parts (at r (q .region)) _ (new .1) in
-    let lt = is-place m world u rows k (c .loop-k .marks) same known h true in
+    let lt = is-place world rows same k h in
     let size = length-places-in w (c .loop-k .marks) (proper-world world) in
     let ls : k < length s = omega arith in
     let set-is = sym (places-in-set w (c .loop-k .marks) (c .mark-place .last .self) k (e .places)) in (
       on-loan (c .args .marks .now) (c .loop-k .marks) (c .mark-place .last .self) (inv .0) (e .loan),
       e .regions ∙ inv .1,
       λ v a. subst (λ t. Ahead m w p v r t u′) set-is
-          (ahead-more m (g .I·Inventory .lawful) w p v r s u (inv .2 v a) k q u′ lt ls (place-found m world u rows k (c .loop-k .marks) same known h true) (true-T _ (met .0)) (true-T _ (met .1)) (new .0) (c .add-item .ensures)),
+          (ahead-more m (g .I·Inventory .lawful) w p v r s u (inv .2 v a) k q u′ lt ls (place-found world rows same k h) (true-T _ (met .0)) (true-T _ (met .1)) (new .0) (c .add-item .ensures)),
       subst (λ t. count (places-in w (c .args .marks .now)) < count t) set-is (grew-more (c .loop-k .grew) (places-in w (c .args .marks .now)) s k (inv .3) ls (new .0)),
       tt,
     )

@@ -1,4 +1,4 @@
-use mathlib.Core.Path.{_≡_, ap, _∙_}
+use mathlib.Core.Path.{ap, _∙_}
 use Rattle.model.specs.Worlds.{with-items, pool-items, opens, finishable}
 use Rattle.world.specs.Worlds.{world-of}
 use Rattle.explore.proofs.places.mark_finishable.Needs as need

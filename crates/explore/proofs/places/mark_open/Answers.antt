@@ -1,6 +1,5 @@
-use mathlib.Core.Path.{_≡_, sym, subst, _∙_}
-use mathlib.Core.Bool.{false}
-use lib.ListN.{length, replicate}
+use mathlib.Core.Path.{sym, subst, _∙_}
+use lib.ListN.{length}
 use Rattle.model.specs.Marks.{Sub}
 use Rattle.model.specs.Worlds.{opens}
 use Rattle.world.specs.Worlds.{world-of}

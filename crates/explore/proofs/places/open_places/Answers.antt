@@ -1,8 +1,7 @@
-use mathlib.Core.Path.{_≡_, refl, sym, subst, _∙_}
-use mathlib.Core.Bool.{true, false, not, _&&_}
+use mathlib.Core.Path.{refl, sym, subst, _∙_}
+use mathlib.Core.Bool.{true, false}
 use Prim.Native.Nat.{_+_}
 use native.Mathlib.Omega.{arith}
-use lib.ListN.{length}
 use Rattle.std.proofs.shelf.Elements.{all-getD}
 use Rattle.model.specs.Marks.{at}
 use Rattle.model.specs.Worlds.{opens}
@@ -34,8 +33,8 @@ loop-k-again-then-not-opens-now g c =
     let s = places-in w (c .loop-k .marks) in
     let inv = c .loop-k .inv in
     let places = c .places-place-items .ensures in
-    let read = read-open m world v (c .places-place-items .result .now) k (c .loop-k .marks) (places .meaning) (places .known) (c .loop-k-test .taken) false
-    (regions-in-kept w (c .args .marks .now) (c .loop-k .marks) (inv .1) ∙ c .pre .reached) (c .if-not-opens-now .ensures tt) in
+    let read = read-open world (c .places-place-items .result .now) (places .meaning) k (c .loop-k-test .taken) m v (c .loop-k .marks) false (c .if-not-opens-now .ensures tt) (places .known)
+    (regions-in-kept w (c .args .marks .now) (c .loop-k .marks) (inv .1) ∙ c .pre .reached) in
     (inv .0, inv .1, opening-skip (opens m w v) (places-in w (c .args .marks .now)) s k (c .loop-k .grew) (inv .2) (not-newly (at s k) (at (opens m w v) k) (sym read)))
 
 pub loop-k-again : need.loop-k-again
@@ -51,8 +50,8 @@ loop-k-again g c =
     let inv = c .loop-k .inv in
     let places = c .places-place-items .ensures in
     let e = c .mark-place .ensures in
-    let read = read-open m world v (c .places-place-items .result .now) k (c .loop-k .marks) (places .meaning) (places .known) (c .loop-k-test .taken) true
-    (regions-in-kept w (c .args .marks .now) (c .loop-k .marks) (inv .1) ∙ c .pre .reached) (c .if-not-opens-now .ensures tt) in
+    let read = read-open world (c .places-place-items .result .now) (places .meaning) k (c .loop-k-test .taken) m v (c .loop-k .marks) true (c .if-not-opens-now .ensures tt) (places .known)
+    (regions-in-kept w (c .args .marks .now) (c .loop-k .marks) (inv .1) ∙ c .pre .reached) in
     let new = is-newly (at s k) (at o k) (sym read) in (
       on-loan (c .args .marks .now) (c .loop-k .marks) (c .mark-place .last .self) (inv .0) (e .loan),
       e .regions ∙ inv .1,

@@ -1,4 +1,4 @@
-use mathlib.Core.Path.{_≡_, ap, _∙_}
+use mathlib.Core.Path.{ap, _∙_}
 use mathlib.Core.List.{_∷_}
 use Rattle.inventory.specs.Meaning.{held}
 use Rattle.scratch.specs.Held.{held as stacked}

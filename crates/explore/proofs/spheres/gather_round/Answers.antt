@@ -1,4 +1,4 @@
-use mathlib.Core.Path.{_≡_, sym, subst, _∙_}
+use mathlib.Core.Path.{sym, subst, _∙_}
 use Rattle.model.specs.Marks.{In}
 use Rattle.world.specs.Worlds.{world-of}
 use Rattle.explore.specs.Marked.{places-in}

@@ -1,5 +1,5 @@
 use mathlib.Core.Path.{_≡_}
-use Prim.Native.Nat.{ℕ, suc, _-_}
+use Prim.Native.Nat.{suc, _-_}
 use lib.ListN.{length}
 use Rattle.scratch.specs.Marks.{Same-loan}
 use Rattle.model.specs.Marks.{at, first}

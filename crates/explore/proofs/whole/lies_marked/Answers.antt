@@ -3,7 +3,7 @@ use mathlib.Core.Bool.{true, false, _&&_, _||_}
 use Prim.Native.Nat.{_+_}
 use native.Mathlib.Omega.{arith}
 use lib.Dec.{eqb}
-use lib.ListN.{length, drop}
+use lib.ListN.{drop}
 use Rattle.model.specs.Marks.{at, any}
 use Rattle.model.specs.Placements.{item-at, lying}
 use Rattle.world.specs.Worlds.{world-of, spot}
