@@ -1,0 +1,6 @@
+pub mod Loops
+pub mod Splits
+pub mod Separators
+pub mod Lookups
+pub mod Amounts
+pub mod Classes
