@@ -1,6 +1,7 @@
 // Cutting a row of bytes in two.
 ghost use mathlib.Core.Path.{_≡_};
-ghost use lib.ListN.{length};
+ghost use Prim.Native.Nat.{_+_, _<_};
+ghost use lib.ListN.{length, take, drop};
 ghost use Rattle.std.specs.Options.{Cases};
 ghost use Rattle.words.specs.Splitting.{front, Whole, Cut};
 
@@ -16,6 +17,17 @@ fn front_len(separator: u8, part: &[u8]) -> usize
     part.len()
 }
 
+// The bytes on both sides of the one at that index.
+fn sides<'t>(part: &'t [u8], at: usize) -> (&'t [u8], &'t [u8])
+    requires { ⌜ at < length (now part) ⌝ }
+    ensures before { λ r. ⌜ now (r .0) ≡ take at (now (part .entry)) ⌝ }
+    ensures after { λ r. ⌜ now (r .1) ≡ drop (at + 1) (now (part .entry)) ⌝ }
+{
+    let (before, _) = part.split_at(at);
+    let (_, after) = part.split_at(at + 1);
+    (before, after)
+}
+
 // What stands before the first separator and what stands behind it, if there is one.
 pub fn cut<'t>(separator: u8, part: &'t [u8]) -> Option<(&'t [u8], &'t [u8])>
     ensures { λ r. ⌜ Cases r (Whole separator (now (part .entry))) (λ p. Cut separator (now (part .entry)) (now (p .0)) (now (p .1))) ⌝ }
@@ -24,5 +36,5 @@ pub fn cut<'t>(separator: u8, part: &'t [u8]) -> Option<(&'t [u8], &'t [u8])>
     if before >= part.len() {
         return None;
     }
-    Some((&part[0..before], &part[before + 1..]))
+    Some(sides(part, before))
 }
