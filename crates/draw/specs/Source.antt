@@ -19,7 +19,7 @@ pub record Fair (s : Source) : Type 0 where
   pub none-drawn : (x : s .State) → s .drawn x 0 ≡ 0
   pub none-after : (x : s .State) → s .after x 0 ≡ x
 
--- a source that takes its next number and answers it modulo n; draw 0 takes none
+-- a source with a number for each state, which answers that number's remainder; draw 0 goes nowhere
 abbrev pub modulo : {S : Type 0} → (S → ℕ) → (S → S) → Source
 modulo {S = S} number next = record {
   State = S;

@@ -1,4 +1,4 @@
--- The tape: numbers taken from the front; past its end each is 0.
+-- The tape: numbers written down beforehand, used up from the front; where there are none, 0.
 use mathlib.Core.List.{List}
 use Prim.Native.Nat.{ℕ}
 use lib.ListN.{getD, drop}
@@ -10,7 +10,7 @@ first xs = getD xs 0 0
 abbrev pub others : List ℕ → List ℕ
 others xs = drop 1 xs
 
--- each draw takes the next number and answers it modulo n; at its end the tape stays
+-- a draw uses up the front number and answers its remainder; an empty tape stays empty
 abbrev pub tape : Source
 tape = modulo first others
 

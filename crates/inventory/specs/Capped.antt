@@ -20,7 +20,7 @@ capped top n = (min n top, omega arith)
 abbrev pub up-to : ℕ → ℕ → ℕ
 up-to top code = cond (known code) top 0
 
--- joining adds and stops at the top, below compares every level, and an amount is met from that level on
+-- joined levels add up, to the top at most; a value is below one that is as high at every code; a level meets every amount up to it
 abbrev pub levels : (ℕ → ℕ) → Meaning
 levels top = record {
   Value = (c : ℕ) → Level (top c);

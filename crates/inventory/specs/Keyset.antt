@@ -10,7 +10,7 @@ use Rattle.inventory.specs.Meaning.{Meaning}
 abbrev pub known : ℕ → Bool
 known code = ltb code 32
 
--- joining is union, and below is inclusion; only amount 1 of a member is met
+-- sets are joined to their union, a set is below those that contain it, and a member is met once
 abbrev pub keys : Meaning
 keys = record {
   Value = ℕ → Bool;

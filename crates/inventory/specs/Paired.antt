@@ -8,7 +8,7 @@ use Rattle.inventory.specs.Meaning.{Meaning}
 abbrev pub on-left : ℕ → Bool
 on-left code = eqb (code % 2) 0
 
--- code 2c is the left one's code c, and code 2c + 1 the right one's; joining and order are side by side
+-- half a code is the code on its side; values are joined and compared side by side
 abbrev pub paired : Meaning → Meaning → Meaning
 paired l r = record {
   Value = l .Value × r .Value;

@@ -1,4 +1,4 @@
-// Two inventories side by side: code 2c is the left one's code c, and 2c + 1 the right one's.
+// Two inventories side by side: the left one has the even codes, the right one the odd codes.
 ghost use mathlib.Core.Path.{_≡_};
 ghost use Rattle.inventory.specs.Paired.{paired};
 ghost use Rattle.inventory.specs.PairedLaws.{«paired-lawful»};
