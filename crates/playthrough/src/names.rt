@@ -1,6 +1,10 @@
 // The names of the example world.
+ghost use mathlib.Core.Path.{_≡_};
+ghost use Rattle.playthrough.specs.Names.{«region-named», «place-named», «kind-named»};
 
-pub fn region_name(region: u8) -> &'static str {
+pub fn region_name(region: u8) -> &'static str
+    ensures { λ r. ⌜ now r ≡ «region-named» region ⌝ }
+{
     match region {
         0 => "yard",
         1 => "cave",
@@ -8,7 +12,9 @@ pub fn region_name(region: u8) -> &'static str {
     }
 }
 
-pub fn place_name(place: usize) -> &'static str {
+pub fn place_name(place: usize) -> &'static str
+    ensures { λ r. ⌜ now r ≡ «place-named» place ⌝ }
+{
     match place {
         0 => "well",
         1 => "shed",
@@ -17,7 +23,9 @@ pub fn place_name(place: usize) -> &'static str {
     }
 }
 
-pub fn kind_name(code: u16) -> &'static str {
+pub fn kind_name(code: u16) -> &'static str
+    ensures { λ r. ⌜ now r ≡ «kind-named» code ⌝ }
+{
     match code {
         0 => "lamp",
         1 => "coin",

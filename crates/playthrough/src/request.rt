@@ -1,4 +1,7 @@
 // What the program is asked to deal: a source, and the items in the order of the input.
+ghost use Prim.Native.Nat.{_<_, _≤_};
+ghost use Rattle.std.specs.Of.Vec.{vec-len};
+ghost use Rattle.std.specs.Vec.{made};
 use crate::fault::Fault;
 use crate::fault::What;
 use crate::fault::WhatFromRefused;
@@ -63,7 +66,9 @@ fn source(heap: Global, line: &str) -> Result<Chosen, What> {
     }
 }
 
-fn item(line: &str) -> Result<Item, What> {
+fn item(line: &str) -> Result<Item, What>
+    ensures { λ r. ⌜ made r (λ i. i .number < 32) ⌝ }
+{
     let Some((name, word)) = line.split_once(' ') else {
         return Err(What::NotAnItem);
     };
@@ -83,7 +88,9 @@ fn item(line: &str) -> Result<Item, What> {
     })
 }
 
-fn put_line(items: &mut Vec<Item>, line: &str) -> Result<(), What> {
+fn put_line(items: &mut Vec<Item>, line: &str) -> Result<(), What>
+    ensures { λ _. ⌜ (vec-len (now (items .entry)) ≤ 256 → vec-len (now (items .exit)) ≤ 256) ⌝ }
+{
     let item = item(line)?;
     if items.len() >= 256 {
         return Err(What::TooManyItems);
@@ -92,7 +99,9 @@ fn put_line(items: &mut Vec<Item>, line: &str) -> Result<(), What> {
     Ok(())
 }
 
-fn read_text(heap: Global, text: &str) -> Result<Request, Fault> {
+fn read_text(heap: Global, text: &str) -> Result<Request, Fault>
+    ensures { λ r. ⌜ made r (λ q. vec-len (q .items) ≤ 256) ⌝ }
+{
     let mut lines = text.lines();
     let Some(first) = lines.next() else {
         return Err(Fault {
@@ -115,8 +124,10 @@ fn read_text(heap: Global, text: &str) -> Result<Request, Fault> {
     Ok(Request { source, items })
 }
 
-// Reads an input whole, or says what is wrong with it first.
-pub fn read(heap: Global, bytes: &[u8]) -> Result<Request, Fault> {
+// Reads an input whole, or says what is wrong with it first; at most 256 items are taken in.
+pub fn read(heap: Global, bytes: &[u8]) -> Result<Request, Fault>
+    ensures { λ r. ⌜ made r (λ q. vec-len (q .items) ≤ 256) ⌝ }
+{
     match std::str::from_utf8(bytes) {
         Ok(text) => read_text(heap, text),
         Err(_) => Err(Fault {
