@@ -1,4 +1,6 @@
 // Boards: placements in the making, with at most one item in hand.
+#![tactic(auto)]
+
 mod board;
 mod refusal;
 mod token;

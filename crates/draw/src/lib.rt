@@ -1,4 +1,6 @@
 // Draw sources: where a shuffle gets its numbers from.
+#![tactic(auto)]
+
 mod dealing;
 mod refusal;
 mod seeded;

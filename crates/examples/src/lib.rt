@@ -1,4 +1,6 @@
 // The worked examples: shown of the definitions, and run as tests of the code.
+#![tactic(auto)]
+
 mod yard;
 
 ghost use Rattle.std.specs.Prelude.{◌≡◌, Ok};

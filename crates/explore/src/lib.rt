@@ -1,4 +1,6 @@
 // What is open in a world, what is gathered from a placement, and in which sphere.
+#![tactic(auto)]
+
 mod asks;
 mod few_marks;
 mod gather;

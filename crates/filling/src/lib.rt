@@ -1,4 +1,6 @@
 // The attempts of a fill: a place is drawn for each item that is not set.
+#![tactic(auto)]
+
 mod assumed;
 mod candidates;
 mod fill;

@@ -1,4 +1,6 @@
 // Inventories: what a player's items amount to.
+#![tactic(auto)]
+
 mod barren;
 mod family;
 mod keys;

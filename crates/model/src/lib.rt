@@ -1,4 +1,6 @@
 // What worlds, rules, gathering, placements, boards and runs are, and what is shown of them.
+#![tactic(auto)]
+
 mod board_refusal;
 mod laws;
 mod rule_word;

@@ -1,4 +1,6 @@
 // Walks through the example world, then deals items in drawn order into an inventory; prints each step.
+#![tactic(auto)]
+
 mod fault;
 mod item;
 mod names;

@@ -1,4 +1,6 @@
 // What is promised of every board and of every run: each function's contract is a statement, and the function does nothing else.
+#![tactic(auto)]
+
 ghost use Rattle.promises.specs.Promises.{BoardsStaySupported, FillsReachEachWhole, FillsAreWhole, SourcesAreTheirAnswers, StartsAreWhole, TakesAreKept, RunsNeverStall};
 
 use draw::DrawSource;

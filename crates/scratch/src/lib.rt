@@ -1,4 +1,6 @@
 // Memory that a caller lends: a stack over a borrowed slice, and the work marks.
+#![tactic(auto)]
+
 mod marks;
 mod stack;
 

@@ -1,4 +1,6 @@
 // Placements as tables of place records, sheets, and sheet files.
+#![tactic(auto)]
+
 mod laws;
 mod refusal;
 mod sheet;

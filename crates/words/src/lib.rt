@@ -1,4 +1,6 @@
 // The words of a world text: bytes, names and amounts, and what a word says in a rule.
+#![tactic(auto)]
+
 mod laws;
 mod names;
 mod spelling;

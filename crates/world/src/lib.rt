@@ -1,4 +1,6 @@
 // Worlds: their tables, made row by row, and never any other than well formed.
+#![tactic(auto)]
+
 mod draft;
 mod refusal;
 mod rows;
