@@ -28,16 +28,16 @@ goal_on rule w = left (goal_refusal w rule) (with_goal w rule) w
 
 pub returns : goal.returns
 returns c =
-    c.set-goal.ensures.draft ∙ ap (goal_on world_a.goal)
-    (c.add-item-3.ensures.draft ∙ ap (item_on 1)
-    (c.add-item-2.ensures.draft ∙ ap (item_on 1)
-    (c.add-item.ensures.draft ∙ ap (item_on 0)
-    (c.add-place-3.ensures.draft ∙ ap (place_on vault)
-    (c.add-place-2.ensures.draft ∙ ap (place_on shed)
-    (c.add-place.ensures.draft ∙ ap (place_on well)
-    (c.add-gate.ensures.draft ∙ ap (gate_on to_cave)
-    (c.add-region-2.ensures.draft ∙ ap region_on
-    (c.add-region.ensures.draft ∙ ap region_on
-    (c.add-kind-3.ensures.draft ∙ ap (kind_on Tier)
-    (c.add-kind-2.ensures.draft ∙ ap (kind_on Count)
-    (c.add-kind.ensures.draft ∙ ap (kind_on Key) c.requires))))))))))))
+    c.set_goal.ensures.draft ∙ ap (goal_on world_a.goal)
+    (c.add_item-3.ensures.draft ∙ ap (item_on 1)
+    (c.add_item-2.ensures.draft ∙ ap (item_on 1)
+    (c.add_item.ensures.draft ∙ ap (item_on 0)
+    (c.add_place-3.ensures.draft ∙ ap (place_on vault)
+    (c.add_place-2.ensures.draft ∙ ap (place_on shed)
+    (c.add_place.ensures.draft ∙ ap (place_on well)
+    (c.add_gate.ensures.draft ∙ ap (gate_on to_cave)
+    (c.add_region-2.ensures.draft ∙ ap region_on
+    (c.add_region.ensures.draft ∙ ap region_on
+    (c.add_kind-3.ensures.draft ∙ ap (kind_on Tier)
+    (c.add_kind-2.ensures.draft ∙ ap (kind_on Count)
+    (c.add_kind.ensures.draft ∙ ap (kind_on Key) c.requires))))))))))))

@@ -9,6 +9,6 @@ returns g c =
     let m = g.I.Inventory.meaning in
     let w = world_of c.args.world.now in
     record {
-      places = c.mark-open.ensures.places ∙ ap (opens m w) (c.add-pool.ensures ∙ ap (λ v. with_items m w v (pool_items w)) c.stock-value-value.ensures);
-      loan = c.mark-open.ensures.loan;
+      places = c.mark_open.ensures.places ∙ ap (opens m w) (c.add_pool.ensures ∙ ap (λ v. with_items m w v (pool_items w)) c.stock_value-value.ensures);
+      loan = c.mark_open.ensures.loan;
     }

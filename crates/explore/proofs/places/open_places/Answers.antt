@@ -17,11 +17,11 @@ loop-k-init g c =
     let s = places_in w c.args.marks.now in
     ((refl, refl), refl, opening_none _ s s (length_places_in w c.args.marks.now (proper_world c.args.world.now) ∙ sym (length_opens _ g.I.Inventory.lawful w _)) c.requires.below)
 
-pub opens-now-requires : goal.opens-now-requires
-opens-now-requires g c = All-get_or (KnownPlace c.args.world.now) c.places-place-items.result.now c.loop-k.k no_place c.loop-k-test.true c.places-place-items.ensures.known
+pub opens_now-requires : goal.opens_now-requires
+opens_now-requires g c = All-get_or (KnownPlace c.args.world.now) c.places-place-items.result.now c.loop-k.k no_place c.loop-k-test.true c.places-place-items.ensures.known
 
-pub loop-k-preserved-then-not-opens-now : goal.loop-k-preserved-then-not-opens-now
-loop-k-preserved-then-not-opens-now g c =
+pub loop-k-preserved-then-not-opens_now : goal.loop-k-preserved-then-not-opens_now
+loop-k-preserved-then-not-opens_now g c =
     let world = c.args.world.now in
     let w = world_of world in
     let m = g.I.Inventory.meaning in
@@ -30,7 +30,7 @@ loop-k-preserved-then-not-opens-now g c =
     let s = places_in w c.loop-k.marks in
     let inv = c.loop-k.invariant in
     let places = c.places-place-items.ensures in
-    let read = read_open world c.places-place-items.result.now places.meaning k c.loop-k-test.true m v c.loop-k.marks false c.if-not-opens-now.ensures places.known
+    let read = read_open world c.places-place-items.result.now places.meaning k c.loop-k-test.true m v c.loop-k.marks false c.if-not-opens_now.ensures places.known
     (regions_in_kept w c.args.marks.now c.loop-k.marks inv.1 ∙ c.requires.reached) in
     (inv.0, inv.1, opening_skip (opens m w v) (places_in w c.args.marks.now) s k c.loop-k.grew inv.2 (not_newly (at s k) (at (opens m w v) k) (sym read)))
 
@@ -46,13 +46,13 @@ loop-k-preserved g c =
     let s = places_in w c.loop-k.marks in
     let inv = c.loop-k.invariant in
     let places = c.places-place-items.ensures in
-    let e = c.mark-place.ensures in
-    let read = read_open world c.places-place-items.result.now places.meaning k c.loop-k-test.true m v c.loop-k.marks true c.if-not-opens-now.ensures places.known
+    let e = c.mark_place.ensures in
+    let read = read_open world c.places-place-items.result.now places.meaning k c.loop-k-test.true m v c.loop-k.marks true c.if-not-opens_now.ensures places.known
     (regions_in_kept w c.args.marks.now c.loop-k.marks inv.1 ∙ c.requires.reached) in
     let new = is_newly (at s k) (at o k) (sym read) in (
-      on_loan c.args.marks.now c.loop-k.marks c.mark-place.new.self inv.0 e.loan,
+      on_loan c.args.marks.now c.loop-k.marks c.mark_place.new.self inv.0 e.loan,
       e.regions ∙ inv.1,
-      subst (λ t. Opening o s₀ t (k + 1) true) (sym (places_in_set w c.loop-k.marks c.mark-place.new.self k e.places)) (opening_more o s₀ s k c.loop-k.grew inv.2 new.0 new.1),
+      subst (λ t. Opening o s₀ t (k + 1) true) (sym (places_in_set w c.loop-k.marks c.mark_place.new.self k e.places)) (opening_more o s₀ s k c.loop-k.grew inv.2 new.0 new.1),
     )
 
 pub returns : goal.returns

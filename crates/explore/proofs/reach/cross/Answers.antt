@@ -8,14 +8,14 @@ use Rattle.explore.proofs.Known.{proper_world}
 use Rattle.explore.proofs.Counting.{count_below}
 use Rattle.explore.proofs.reach.cross.Goals as goal
 
-pub returns-then-leads-on : goal.returns-then-leads-on
-returns-then-leads-on g c =
+pub returns-then-leads_on : goal.returns-then-leads_on
+returns-then-leads_on g c =
     let s = regions c.args.marks.now in
     let size = length_regions c.args.marks.now in
     let far = c.args.gate.far in
     let known = c.requires.known.far_known in
     let few = (proper_world c.args.world.now).few_regions in
-    let yes-leads = sym c.leads-on.ensures ∙ c.if-leads-on.true in
+    let yes-leads = sym c.leads_on.ensures ∙ c.if-leads_on.true in
     let fresh : at s far ≡ false = not-true (at s far) (and_parts (not (at s far)) _ (and_parts (at s c.args.gate.near) _ yes-leads).1).0 in
     let below = count_below s far (omega arith) fresh in
     let space : length (held c.args.waiting.now) < 64 = omega arith in

@@ -18,10 +18,10 @@ returns g c =
     let v = g.I.Inventory.value c.args.value.now in
     let proper = proper_world c.args.world.now in
     let s = regions c.spread.new.marks in
-    let start : regions c.mark-region.new.self ≡ set (replicate 64 false) 0 true = c.mark-region.ensures.regions ∙ ap (λ r. set r 0 true) c.clear-regions.ensures.regions in
+    let start : regions c.mark_region.new.self ≡ set (replicate 64 false) 0 true = c.mark_region.ensures.regions ∙ ap (λ r. set r 0 true) c.clear_regions.ensures.regions in
     record {
       regions = spread_reached m w v proper (reach_law m g.I.Inventory.lawful w v proper) s (length_regions c.spread.new.marks) (subst (λ r. Spread m w v r s) start c.spread.ensures.spreads);
-      places = c.spread.ensures.places ∙ c.mark-region.ensures.places ∙ c.clear-regions.ensures.places;
-      loan = on_loan c.args.marks.now c.clear-regions.new.self c.spread.new.marks c.clear-regions.ensures.loan
-          (on_loan c.clear-regions.new.self c.mark-region.new.self c.spread.new.marks c.mark-region.ensures.loan c.spread.ensures.loan);
+      places = c.spread.ensures.places ∙ c.mark_region.ensures.places ∙ c.clear_regions.ensures.places;
+      loan = on_loan c.args.marks.now c.clear_regions.new.self c.spread.new.marks c.clear_regions.ensures.loan
+          (on_loan c.clear_regions.new.self c.mark_region.new.self c.spread.new.marks c.mark_region.ensures.loan c.spread.ensures.loan);
     }

@@ -25,13 +25,13 @@ loop-near-preserved g c =
     let m = g.I.Inventory.meaning in
     let w = world_of c.args.world.now in
     let v = g.I.Inventory.value c.args.value.now in
-    let s₀ = regions c.sweep-all.new.marks in
+    let s₀ = regions c.sweep_all.new.marks in
     let s = regions c.loop-near.marks in
     let inv = c.loop-near.invariant in
     let e = c.sweep.ensures in (
       e.room,
       e.places ∙ inv.1,
-      on_loan c.sweep-all.new.marks c.loop-near.marks c.sweep.new.marks inv.2 e.loan,
+      on_loan c.sweep_all.new.marks c.loop-near.marks c.sweep.new.marks inv.2 e.loan,
       underway_turn m w v s₀ s c.in-Some.near (stacked c.pop.new.self) (regions c.sweep.new.marks) (stacked c.sweep.new.waiting)
           (subst (Underway m w v s₀ s) c.in-Some.ensures.cases.0 inv.3) e.widens e.left,
     )
@@ -42,7 +42,7 @@ returns g c =
     let w = world_of c.args.world.now in
     let v = g.I.Inventory.value c.args.value.now in
     record {
-      spreads = spread m w v (regions c.args.marks.now) (regions c.sweep-all.new.marks) (regions c.loop-near.marks) (stacked c.sweep-all.new.waiting) (stacked c.loop-near.waiting) c.sweep-all.ensures.widens c.loop-near.invariant.3 c.in-default.ensures.cases.0;
-      places = c.loop-near.invariant.1 ∙ c.sweep-all.ensures.places;
-      loan = on_loan c.args.marks.now c.sweep-all.new.marks c.loop-near.marks c.sweep-all.ensures.loan c.loop-near.invariant.2;
+      spreads = spread m w v (regions c.args.marks.now) (regions c.sweep_all.new.marks) (regions c.loop-near.marks) (stacked c.sweep_all.new.waiting) (stacked c.loop-near.waiting) c.sweep_all.ensures.widens c.loop-near.invariant.3 c.in_default.ensures.cases.0;
+      places = c.loop-near.invariant.1 ∙ c.sweep_all.ensures.places;
+      loan = on_loan c.args.marks.now c.sweep_all.new.marks c.loop-near.marks c.sweep_all.ensures.loan c.loop-near.invariant.2;
     }

@@ -17,8 +17,8 @@ loop-number-init g c =
     let v = g.I.Inventory.value c.args.value.now in
     let s = regions c.args.marks.now in
     let h = stacked c.args.waiting.now in
-    let chain = chain_start m world v c.gates-gates.result.now c.gates-gates.ensures.meaning (proper_world world) (gate_rows world) c.gates-gates.ensures.rows c.args.near c.last-gate-number.result h s
-    c.last-gate-number.ensures.known c.last-gate-number.ensures.unknown in
+    let chain = chain_start m world v c.gates-gates.result.now c.gates-gates.ensures.meaning (proper_world world) (gate_rows world) c.gates-gates.ensures.rows c.args.near c.last_gate-number.result h s
+    c.last_gate-number.ensures.known c.last_gate-number.ensures.unknown in
     (c.requires.room, refl, (refl, refl), widens_none m (world_of world) v s h, chain.0, chain.1, chain.2)
 
 pub cross-requires : goal.cross-requires

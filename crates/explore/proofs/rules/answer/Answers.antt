@@ -12,16 +12,16 @@ loop-word-preserved g c =
     let s = stacked c.loop-word.stack in
     let t = stacked c.put_down.new.stack in
     let meets = held g.I.Inventory.meaning (g.I.Inventory.value c.args.value.now) in
-    let put = c.if-not-put-down.ensures.put in
+    let put = c.if-not-put_down.ensures.put in
     (c.put_down.ensures.room, pass_next rule i s h meets t put.0 ∙ c.loop-word.invariant.1, weighed_next rule i s h t put.1 ∙ c.loop-word.invariant.2)
 
-pub returns-then-not-put-down : goal.returns-then-not-put-down
-returns-then-not-put-down g c =
-    unformed c.args.rule.now c.loop-word.word-index _ c.loop-word-test.true _ c.loop-word.invariant.2 c.if-not-put-down.ensures.put
+pub returns-then-not-put_down : goal.returns-then-not-put_down
+returns-then-not-put_down g c =
+    unformed c.args.rule.now c.loop-word.word-index _ c.loop-word-test.true _ c.loop-word.invariant.2 c.if-not-put_down.ensures.put
 
-pub returns-in-default : goal.returns-in-default
-returns-in-default g c =
-    left_none c.args.rule.now c.loop-word.word-index _ _ c.loop-word-test.false c.loop-word.invariant.1 c.loop-word.invariant.2 c.in-default.ensures.cases.0
+pub returns-in_default : goal.returns-in_default
+returns-in_default g c =
+    left_none c.args.rule.now c.loop-word.word-index _ _ c.loop-word-test.false c.loop-word.invariant.1 c.loop-word.invariant.2 c.in_default.ensures.cases.0
 
 pub returns-in-Some-pop : goal.returns-in-Some-pop
 returns-in-Some-pop g c =

@@ -36,7 +36,7 @@ loop-k-preserved g c =
     let many = as_many (spot world) c.places-places.result.now w.places c.places-places.ensures.meaning in
     let size = length_places_in w c.args.marks.now (proper_world world) in
     let read : at s k ≡ true = at_places_in w c.args.marks.now k (omega arith) ∙ sym c.if-not-place.ensures in
-    ap (λ x. with_items m w x (lying (drop (k + 1) p) (drop (k + 1) s))) c.add-item.ensures
+    ap (λ x. with_items m w x (lying (drop (k + 1) p) (drop (k + 1) s))) c.add_item.ensures
     ∙ ap (λ b. with_items m w (cond b (with_item m w u (item_at p k)) u) (lying (drop (k + 1) p) (drop (k + 1) s))) (sym read) ∙ lying_step m w u p s k (omega arith) ∙ c.loop-k.invariant
 
 pub returns : goal.returns

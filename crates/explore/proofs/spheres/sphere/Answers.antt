@@ -28,13 +28,13 @@ loop-i-init g c =
       ap (λ k. first k 1 (λ r. at (round m w p (stocked m w) r) c.args.place)) all,
     )
 
-pub gather-round-grew-requires : goal.gather-round-grew-requires
-gather-round-grew-requires g c =
+pub gather_round-grew-requires : goal.gather_round-grew-requires
+gather_round-grew-requires g c =
     let w = world_of c.args.world.now in
     let m = g.I.Inventory.meaning in
     let p = c.args.placement.now in
     let s = places_in w c.loop-i.marks in
-    subst (λ v. Sub s (gains m w p v s)) (sym c.stock-value-start.ensures) (round_below m w p (stocked m w) g.I.Inventory.lawful s c.loop-i.i c.loop-i.invariant.1)
+    subst (λ v. Sub s (gains m w p v s)) (sym c.stock_value-start.ensures) (round_below m w p (stocked m w) g.I.Inventory.lawful s c.loop-i.i c.loop-i.invariant.1)
 
 pub returns-then-place : goal.returns-then-place
 unfolding sphere
@@ -45,14 +45,14 @@ returns-then-place g c =
     let p = c.args.placement.now in
     let q = c.args.place in
     let i = c.loop-i.i in
-    let marks = c.gather-round-grew.new.marks in
+    let marks = c.gather_round-grew.new.marks in
     let s = places_in w c.loop-i.marks in
     let many = as_many (spot world) c.places-places.result.now w.places c.places-places.ensures.meaning in
-    let next = round_next m w p (stocked m w) s (places_in w marks) i c.loop-i.invariant.1 (c.gather-round-grew.ensures.gains ∙ ap (λ v. gains m w p v s) c.stock-value-start.ensures) in
+    let next = round_next m w p (stocked m w) s (places_in w marks) i c.loop-i.invariant.1 (c.gather_round-grew.ensures.gains ∙ ap (λ v. gains m w p v s) c.stock_value-start.ensures) in
     let here : at (round m w p (stocked m w) (suc i)) q ≡ true = ap (λ x. at x q) (sym next) ∙ at_places_in w marks q (omega arith) ∙ sym c.if-place.ensures in
     record {
       sphere = first_here (length w.places) i (λ r. at (round m w p (stocked m w) r) q) (omega arith) c.loop-i.invariant.2 here;
-      loan = on_loan c.args.marks.now c.clear.new.self marks c.clear.ensures.loan (on_loan c.clear.new.self c.loop-i.marks marks c.loop-i.invariant.0 c.gather-round-grew.ensures.loan);
+      loan = on_loan c.args.marks.now c.clear.new.self marks c.clear.ensures.loan (on_loan c.clear.new.self c.loop-i.marks marks c.loop-i.invariant.0 c.gather_round-grew.ensures.loan);
     }
 
 pub returns-then-not-grew : goal.returns-then-not-grew
@@ -63,14 +63,14 @@ returns-then-not-grew g c =
     let m = g.I.Inventory.meaning in
     let p = c.args.placement.now in
     let q = c.args.place in
-    let marks = c.gather-round-grew.new.marks in
+    let marks = c.gather_round-grew.new.marks in
     let s = places_in w c.loop-i.marks in
     let many = as_many (spot world) c.places-places.result.now w.places c.places-places.ensures.meaning in
-    let same : places_in w marks ≡ s = subst (λ b. Grew b s (places_in w marks)) c.if-not-grew.true c.gather-round-grew.ensures.grew in
+    let same : places_in w marks ≡ s = subst (λ b. Grew b s (places_in w marks)) c.if-not-grew.true c.gather_round-grew.ensures.grew in
     record {
-      sphere = first_settled m w p (stocked m w) s (places_in w marks) (length w.places) c.loop-i.i q c.loop-i.invariant.1 (c.gather-round-grew.ensures.gains ∙ ap (λ v. gains m w p v s) c.stock-value-start.ensures) same
+      sphere = first_settled m w p (stocked m w) s (places_in w marks) (length w.places) c.loop-i.i q c.loop-i.invariant.1 (c.gather_round-grew.ensures.gains ∙ ap (λ v. gains m w p v s) c.stock_value-start.ensures) same
           (at_places_in w marks q (omega arith) ∙ sym c.if-place.ensures) c.loop-i.invariant.2;
-      loan = on_loan c.args.marks.now c.clear.new.self marks c.clear.ensures.loan (on_loan c.clear.new.self c.loop-i.marks marks c.loop-i.invariant.0 c.gather-round-grew.ensures.loan);
+      loan = on_loan c.args.marks.now c.clear.new.self marks c.clear.ensures.loan (on_loan c.clear.new.self c.loop-i.marks marks c.loop-i.invariant.0 c.gather_round-grew.ensures.loan);
     }
 
 pub loop-i-preserved : goal.loop-i-preserved
@@ -80,13 +80,13 @@ loop-i-preserved g c =
     let m = g.I.Inventory.meaning in
     let p = c.args.placement.now in
     let q = c.args.place in
-    let marks = c.gather-round-grew.new.marks in
+    let marks = c.gather_round-grew.new.marks in
     let s = places_in w c.loop-i.marks in
     let i = c.loop-i.i in
     let many = as_many (spot world) c.places-places.result.now w.places c.places-places.ensures.meaning in
-    let next = round_next m w p (stocked m w) s (places_in w marks) i c.loop-i.invariant.1 (c.gather-round-grew.ensures.gains ∙ ap (λ v. gains m w p v s) c.stock-value-start.ensures) in
+    let next = round_next m w p (stocked m w) s (places_in w marks) i c.loop-i.invariant.1 (c.gather_round-grew.ensures.gains ∙ ap (λ v. gains m w p v s) c.stock_value-start.ensures) in
     let one : suc i ≡ i + 1 = omega arith in (
-      on_loan c.clear.new.self c.loop-i.marks marks c.loop-i.invariant.0 c.gather-round-grew.ensures.loan,
+      on_loan c.clear.new.self c.loop-i.marks marks c.loop-i.invariant.0 c.gather_round-grew.ensures.loan,
       next ∙ ap (round m w p (stocked m w)) one,
       first_on (length w.places) i (λ r. at (round m w p (stocked m w) r) q) (omega arith) c.loop-i.invariant.2 (ap (λ x. at x q) (sym next) ∙ at_places_in w marks q (omega arith) ∙ sym c.if-place.ensures),
     )

@@ -13,5 +13,5 @@ read xs a (suc n) e = drop_more xs a 0 (omega arith) ∙ ap (λ l. get_or xs a 0
 pub returns : goal.returns
 returns g c =
     let pool = (world_of c.args.world.now).pool in
-    c.add-codes.ensures
+    c.add_codes.ensures
     ∙ ap (with_codes g.I.Inventory.meaning (g.I.Inventory.value c.args.value.now)) (c.pool.ensures.codes ∙ read pool 0 (length pool) (omega arith))

@@ -9,8 +9,8 @@ use Rattle.explore.proofs.Marked.{length_places_in, at_places_in}
 use Rattle.explore.proofs.Lying.{found_step, lying_end}
 use Rattle.explore.proofs.whole.lies_marked.Goals as goal
 
-pub returns-then-lies-here : goal.returns-then-lies-here
-returns-then-lies-here c =
+pub returns-then-lies_here : goal.returns-then-lies_here
+returns-then-lies_here c =
     let world = c.args.world.now in
     let w = world_of world in
     let p = c.args.placement.now in
@@ -19,7 +19,7 @@ returns-then-lies-here c =
     let k = c.loop-k.k in
     let many = as_many (spot world) c.places-places.result.now w.places c.places-places.ensures.meaning in
     let size = length_places_in w c.args.marks.now (proper_world world) in
-    let read : (at s k && is_item i (item_at p k)) ≡ true = ap (λ b. b && is_item i (item_at p k)) (at_places_in w c.args.marks.now k (omega arith)) ∙ sym c.if-lies-here.ensures in
+    let read : (at s k && is_item i (item_at p k)) ≡ true = ap (λ b. b && is_item i (item_at p k)) (at_places_in w c.args.marks.now k (omega arith)) ∙ sym c.if-lies_here.ensures in
     sym (sym c.loop-k.invariant ∙ found_step i p s k (omega arith) ∙ ap (λ b. b || any (eqb i) (lying (drop (k + 1) p) (drop (k + 1) s))) read)
 
 pub loop-k-preserved : goal.loop-k-preserved
@@ -32,7 +32,7 @@ loop-k-preserved c =
     let k = c.loop-k.k in
     let many = as_many (spot world) c.places-places.result.now w.places c.places-places.ensures.meaning in
     let size = length_places_in w c.args.marks.now (proper_world world) in
-    let read : (at s k && is_item i (item_at p k)) ≡ false = ap (λ b. b && is_item i (item_at p k)) (at_places_in w c.args.marks.now k (omega arith)) ∙ sym c.if-lies-here.ensures in
+    let read : (at s k && is_item i (item_at p k)) ≡ false = ap (λ b. b && is_item i (item_at p k)) (at_places_in w c.args.marks.now k (omega arith)) ∙ sym c.if-lies_here.ensures in
     sym (found_step i p s k (omega arith) ∙ ap (λ b. b || any (eqb i) (lying (drop (k + 1) p) (drop (k + 1) s))) read) ∙ c.loop-k.invariant
 
 pub returns : goal.returns

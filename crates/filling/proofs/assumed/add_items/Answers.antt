@@ -11,7 +11,7 @@ loop-item-preserved g c =
     let items = c.args.items.now in
     let v = g.I.Inventory.value c.loop-item.value in
     let i = c.loop-item.item-index in
-    ap (λ x. with_items m w x (drop (i + 1) items)) (c.add.ensures ∙ ap (λ code. m.join v (m.grain code)) c.code-of.ensures)
+    ap (λ x. with_items m w x (drop (i + 1) items)) (c.add.ensures ∙ ap (λ code. m.join v (m.grain code)) c.code_of.ensures)
     ∙ sym (at_drop_more (with_items m w v) items i 0 c.loop-item-test.true)
     ∙ c.loop-item.invariant
 

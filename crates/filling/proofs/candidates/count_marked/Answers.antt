@@ -13,12 +13,12 @@ loop-place-init c =
     let all = ap length (rest_all w (placement_of c.args.places.now) (places_in w c.args.marks.now)) in
     (omega arith, omega arith)
 
-pub loop-place-preserved-then-not-is-candidate : goal.loop-place-preserved-then-not-is-candidate
-loop-place-preserved-then-not-is-candidate c =
+pub loop-place-preserved-then-not-is_candidate : goal.loop-place-preserved-then-not-is_candidate
+loop-place-preserved-then-not-is_candidate c =
     let world = c.args.world.now in
     let w = world_of world in
     let many = as_many (spot world) c.places-rows.result.now w.places c.places-rows.ensures.meaning in
-    let next = ap length (rest_next w (placement_of c.args.places.now) c.args.marks.now c.loop-place.place (omega arith) c.if-not-is-candidate.ensures) in
+    let next = ap length (rest_next w (placement_of c.args.places.now) c.args.marks.now c.loop-place.place (omega arith) c.if-not-is_candidate.ensures) in
     let inv = c.loop-place.invariant in
     (omega arith, omega arith)
 
@@ -27,7 +27,7 @@ loop-place-preserved c =
     let world = c.args.world.now in
     let w = world_of world in
     let many = as_many (spot world) c.places-rows.result.now w.places c.places-rows.ensures.meaning in
-    let next = ap length (rest_here w (placement_of c.args.places.now) c.args.marks.now c.loop-place.place (omega arith) c.if-not-is-candidate.ensures) in
+    let next = ap length (rest_here w (placement_of c.args.places.now) c.args.marks.now c.loop-place.place (omega arith) c.if-not-is_candidate.ensures) in
     let inv = c.loop-place.invariant in
     (omega arith, omega arith)
 

@@ -16,12 +16,12 @@ loop-place-init c =
     let all = rest_all w (placement_of c.args.places.now) (places_in w c.args.marks.now) in
     (ap (λ l. get_or l c.args.index 0) all, λ h. subst (λ l. c.args.index < length l) (sym all) h)
 
-pub loop-place-preserved-then-not-is-candidate : goal.loop-place-preserved-then-not-is-candidate
-loop-place-preserved-then-not-is-candidate c =
+pub loop-place-preserved-then-not-is_candidate : goal.loop-place-preserved-then-not-is_candidate
+loop-place-preserved-then-not-is_candidate c =
     let world = c.args.world.now in
     let w = world_of world in
     let many = as_many (spot world) c.places-rows.result.now w.places c.places-rows.ensures.meaning in
-    let next = rest_next w (placement_of c.args.places.now) c.args.marks.now c.loop-place.place (omega arith) c.if-not-is-candidate.ensures in
+    let next = rest_next w (placement_of c.args.places.now) c.args.marks.now c.loop-place.place (omega arith) c.if-not-is_candidate.ensures in
     let inv = c.loop-place.invariant in
     (sym (ap (λ l. get_or l c.loop-place.before 0) next) ∙ inv.0, λ h. subst (λ l. c.loop-place.before < length l) next (inv.1 h))
 
@@ -32,7 +32,7 @@ returns-then-before-eq0 c =
     let p = placement_of c.args.places.now in
     let k = c.loop-place.place in
     let many = as_many (spot world) c.places-rows.result.now w.places c.places-rows.ensures.meaning in
-    let fits = c.if-not-is-candidate.ensures in
+    let fits = c.if-not-is_candidate.ensures in
     let here = rest_here w p c.args.marks.now k (omega arith) fits in
     record {
       place = nth_first _ _ k c.loop-place.before here c.if-before-eq0.true ∙ c.loop-place.invariant.0;
@@ -44,7 +44,7 @@ loop-place-preserved c =
     let world = c.args.world.now in
     let w = world_of world in
     let many = as_many (spot world) c.places-rows.result.now w.places c.places-rows.ensures.meaning in
-    let here = rest_here w (placement_of c.args.places.now) c.args.marks.now c.loop-place.place (omega arith) c.if-not-is-candidate.ensures in
+    let here = rest_here w (placement_of c.args.places.now) c.args.marks.now c.loop-place.place (omega arith) c.if-not-is_candidate.ensures in
     let inv = c.loop-place.invariant in
     let later = nth_later _ _ c.loop-place.place c.loop-place.before here c.if-before-eq0.false in
     (later.0 ∙ inv.0, λ h. later.1 (inv.1 h))

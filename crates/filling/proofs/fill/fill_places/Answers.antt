@@ -11,7 +11,7 @@ use Rattle.filling.proofs.fill.fill_places.Goals as goal
 pub items-init : goal.items-init
 items-init g c =
     let p = placement_of c.attempts.places in
-    ((refl, refl), subst (Fresh p) (sym c.unset-items-left.ensures) (fresh_unset (world_of c.args.world.now) p (proper_world c.args.world.now).few_items), refl)
+    ((refl, refl), subst (Fresh p) (sym c.unset_items-left.ensures) (fresh_unset (world_of c.args.world.now) p (proper_world c.args.world.now).few_items), refl)
 
 pub returns-then-count-eq0 : goal.returns-then-count-eq0
 returns-then-count-eq0 g c =
@@ -23,7 +23,7 @@ returns-then-count-eq0 g c =
     let inv = c.items.invariant in
     let left = left_in c.items.left in
     let none : length left ≡ 0 = omega arith in
-    let begins = attempt_begins m w s (state c.attempts.source) (placement_of c.args.places.now) (placement_of c.attempts.places) (left_in c.unset-items-left.result) (ap placement_of before.1) c.unset-items-left.ensures in
+    let begins = attempt_begins m w s (state c.attempts.source) (placement_of c.args.places.now) (placement_of c.attempts.places) (left_in c.unset_items-left.result) (ap placement_of before.1) c.unset_items-left.ensures in
     record {
       filled = sym before.2
           ∙ attempt_fills m w s (placement_of c.args.places.now) c.args.attempts c.attempts.failed (state c.attempts.source) c.attempts.new.item c.attempts-test.true (placement_of c.items.places) (state c.items.source)
@@ -38,7 +38,7 @@ items-smaller g c =
     omega (
       arith,
       item_fewer g.I.Inventory.meaning (world_of c.args.world.now) g.S.DrawSource.draws (state c.items.source) (placement_of c.items.places) (left_in c.items.left) some
-          (state c.set-one.new.source) (placement_of c.set-one.new.places) (left_in c.set-one.new.left) g.S.DrawSource.fair c.in-default.ensures.step,
+          (state c.set_one.new.source) (placement_of c.set_one.new.places) (left_in c.set_one.new.left) g.S.DrawSource.fair c.in_default.ensures.step,
     )
 
 pub items-preserved : goal.items-preserved
@@ -50,13 +50,13 @@ items-preserved g c =
     let x = g.S.DrawSource.state c.items.source in
     let p = placement_of c.items.places in
     let left = left_in c.items.left in
-    let x' = g.S.DrawSource.state c.set-one.new.source in
-    let p' = placement_of c.set-one.new.places in
-    let left' = left_in c.set-one.new.left in
+    let x' = g.S.DrawSource.state c.set_one.new.source in
+    let p' = placement_of c.set_one.new.places in
+    let left' = left_in c.set_one.new.left in
     let inv = c.items.invariant in
     let some : 0 < length left = omega arith in
-    let step = c.in-default.ensures.step in (
-      on_loan c.attempts.marks c.items.marks c.set-one.new.marks inv.0 c.set-one.ensures.loan,
+    let step = c.in_default.ensures.step in (
+      on_loan c.attempts.marks c.items.marks c.set_one.new.marks inv.0 c.set_one.ensures.loan,
       item_fresh m w s x p left some x' p' left' fair step inv.1,
       item_set m w s x p left some x' p' left' fair step ∙ inv.2,
     )
@@ -71,16 +71,16 @@ attempts-preserved g c =
     let x = g.S.DrawSource.state c.items.source in
     let p = placement_of c.items.places in
     let left = left_in c.items.left in
-    let x' = g.S.DrawSource.state c.set-one.new.source in
-    let p' = placement_of c.set-one.new.places in
-    let left' = left_in c.set-one.new.left in
+    let x' = g.S.DrawSource.state c.set_one.new.source in
+    let p' = placement_of c.set_one.new.places in
+    let left' = left_in c.set_one.new.left in
     let item = c.in-Err.none.item in
     let before = c.attempts.invariant in
     let inv = c.items.invariant in
     let some : 0 < length left = omega arith in
-    let begins = attempt_begins m w s x₀ start (placement_of c.attempts.places) (left_in c.unset-items-left.result) (ap placement_of before.1) c.unset-items-left.ensures in
+    let begins = attempt_begins m w s x₀ start (placement_of c.attempts.places) (left_in c.unset_items-left.result) (ap placement_of before.1) c.unset_items-left.ensures in
     let ends = item_ends m w s x p left some x' p' left' item c.in-Err.ensures.step in (
-      on_loan c.args.marks.now c.attempts.marks c.set-one.new.marks before.0 (on_loan c.attempts.marks c.items.marks c.set-one.new.marks inv.0 c.set-one.ensures.loan),
+      on_loan c.args.marks.now c.attempts.marks c.set_one.new.marks before.0 (on_loan c.attempts.marks c.items.marks c.set_one.new.marks inv.0 c.set_one.ensures.loan),
       refl,
       attempt_fails m w s start c.args.attempts c.attempts.failed x₀ c.attempts.new.item c.attempts-test.true item x' (begins ∙ sym inv.2 ∙ ends) ∙ before.2,
     )

@@ -13,4 +13,4 @@ lay-requires g c =
     let left = left_in c.args.left.now in
     let item = fresh_item p left _ (g.S.DrawSource.fair.below (g.S.DrawSource.state c.args.source.now) (length left) c.requires.some) c.requires.fresh in
     let is = sym c.pick-item.ensures.item in
-    record { empty = c.draw-place-place.ensures.empty; small = subst (λ i. i < 256) is item.0; unset = subst (λ i. is_set p i ≡ false) is item.1 }
+    record { empty = c.draw_place-place.ensures.empty; small = subst (λ i. i < 256) is item.0; unset = subst (λ i. is_set p i ≡ false) is item.1 }

@@ -17,12 +17,12 @@ loop-item-init c =
       ap (λ l. l ++ from_on f (length w.pool) 0) none ∙ from_start f (length w.pool),
     )
 
-pub loop-item-preserved-then-is-set : goal.loop-item-preserved-then-is-set
-loop-item-preserved-then-is-set c =
+pub loop-item-preserved-then-is_set : goal.loop-item-preserved-then-is_set
+loop-item-preserved-then-is_set c =
     let w = world_of c.args.world.now in
     let p = placement_of c.args.places.now in
     let codes = ap length c.pool.ensures.codes in
-    let there = c.if-is-set.ensures ∙ same_set p c.loop-item.item in
+    let there = c.if-is_set.ensures ∙ same_set p c.loop-item.item in
     let inv = c.loop-item.invariant in (
       omega arith,
       sym (ap (λ l. left_in c.loop-item.items ++ l) (from_next (λ i. not (is_set p i)) (length w.pool) c.loop-item.item (omega arith) (sym (ap not there)))) ∙ inv.1,
@@ -35,7 +35,7 @@ loop-item-preserved c =
     let f : ℕ → Bool = λ i. not (is_set p i) in
     let i = c.loop-item.item in
     let codes = ap length c.pool.ensures.codes in
-    let nowhere = c.if-is-set.ensures ∙ same_set p i in
+    let nowhere = c.if-is_set.ensures ∙ same_set p i in
     let inv = c.loop-item.invariant in
     let before = left_in c.loop-item.items in
     let size = ap length c.push.ensures ∙ length_push before i in

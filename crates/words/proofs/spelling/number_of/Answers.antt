@@ -5,8 +5,8 @@ use Rattle.words.specs.Spelling.{number, digit}
 use Rattle.words.proofs.Loops.{each_here}
 use Rattle.words.proofs.spelling.number_of.Goals as goal
 
-pub overflow-sub-byte : goal.overflow-sub-byte
-overflow-sub-byte c =
+pub overflow_sub-byte : goal.overflow_sub-byte
+overflow_sub-byte c =
     let d = each_here digit c.args.digits.now c.loop-byte.byte-index c.loop-byte-test.true c.loop-byte.invariant.1 in
     leb-true 48 _ (and_parts _ _ d.0).0
 

@@ -7,5 +7,5 @@ returns-then-before-part c = whole c.args.separator c.args.part.now (omega arith
 
 pub returns : goal.returns
 returns c =
-    let k = cut_at c.args.separator c.front-len-before.result c.args.part.now c.front-len-before.ensures c.if-before-part.false in
+    let k = cut_at c.args.separator c.front_len-before.result c.args.part.now c.front_len-before.ensures c.if-before-part.false in
     rw (c.sides.ensures.before, c.sides.ensures.after) k

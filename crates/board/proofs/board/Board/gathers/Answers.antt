@@ -11,9 +11,9 @@ returns g c =
     let w = atlas_of c.args.self.now in
     record {
       answer =
-          c.is-marked.ensures
-          ∙ ap (λ s. at s c.args.place) (c.mark-gathered.ensures.places
-          ∙ ap (λ (p : Placement). gathered m w p (g.I.Inventory.value c.loose-value-value.result)) c.placement.ensures.records
-          ∙ ap (gathered m w (board_of c.args.self.now).placement) c.loose-value-value.ensures);
-      loan = c.mark-gathered.ensures.loan;
+          c.is_marked.ensures
+          ∙ ap (λ s. at s c.args.place) (c.mark_gathered.ensures.places
+          ∙ ap (λ (p : Placement). gathered m w p (g.I.Inventory.value c.loose_value-value.result)) c.placement.ensures.records
+          ∙ ap (gathered m w (board_of c.args.self.now).placement) c.loose_value-value.ensures);
+      loan = c.mark_gathered.ensures.loan;
     }

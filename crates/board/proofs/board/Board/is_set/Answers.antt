@@ -5,4 +5,4 @@ use Rattle.board.proofs.board.Board.is_set.Goals as goal
 
 pub returns : goal.returns
 unfolding board_of is_set
-returns g c = c.is-set.ensures
+returns g c = c.is_set.ensures

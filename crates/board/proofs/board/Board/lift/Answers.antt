@@ -8,17 +8,17 @@ pub returns-then-item-pool : goal.returns-then-item-pool
 unfolding board_of atlas_of
 returns-then-item-pool g c = search rules
 
-pub returns-then-is-some : goal.returns-then-is-some
+pub returns-then-is_some : goal.returns-then-is_some
 unfolding board_of atlas_of
-returns-then-is-some g c = search rules
+returns-then-is_some g c = search rules
 
-pub returns-then-is-set : goal.returns-then-is-set
+pub returns-then-is_set : goal.returns-then-is_set
 unfolding board_of atlas_of
-returns-then-is-set g c = search rules
+returns-then-is_set g c = search rules
 
-pub invariant-of-self : goal.invariant-of-self
+pub invariant_of-self : goal.invariant_of-self
 unfolding board_of
-invariant-of-self g c =
+invariant_of-self g c =
     let p = placement_of c.args.self.now.layout.table in (
       tt,
       (
@@ -26,7 +26,7 @@ invariant-of-self g c =
         (
           (λ i e. let same : c.args.item ≡ i = cc in omega (arith, c.if-item-pool.false, ap length c.pool.ensures.codes)),
           (
-            (λ i e. let same : c.args.item ≡ i = cc in subst (λ (n : ℕ). is_set p n ≡ false) same (sym c.if-is-set.ensures)),
+            (λ i e. let same : c.args.item ≡ i = cc in subst (λ (n : ℕ). is_set p n ≡ false) same (sym c.if-is_set.ensures)),
             tt,
           ),
         ),

@@ -4,7 +4,7 @@ use Rattle.model.specs.Boards.{Board as Model, is_set, is_item, loose}
 use Rattle.board.specs.Boards.{atlas_of, board_of}
 use Rattle.board.proofs.Loose.{passing, joined_on, left_out, none_left, all_left}
 use Rattle.board.proofs.board.Board.loose_value.Goals as goal
-use Rattle.board.proofs.board.Board.loose_value.Goals.{then-is-loose, else-is-loose}
+use Rattle.board.proofs.board.Board.loose_value.Goals.{then-is_loose, else-is_loose}
 
 test : Model → ℕ → Bool
 test b i = not (is_set b.placement i) && not (is_item i b.hand)
@@ -15,7 +15,7 @@ loop-item-init g c =
     let m = g.I.Inventory.meaning in
     let w = atlas_of c.args.self.now in
     let test = test (board_of c.args.self.now) in
-    ap (λ v. with_items m w v (passing m w test (length w.pool) 0)) c.stock-value-value.ensures ∙ all_left m w test (length w.pool) (stocked m w)
+    ap (λ v. with_items m w v (passing m w test (length w.pool) 0)) c.stock_value-value.ensures ∙ all_left m w test (length w.pool) (stocked m w)
 
 pub loop-item-preserved : goal.loop-item-preserved
 unfolding atlas_of test
@@ -28,14 +28,14 @@ loop-item-preserved g c =
     let v = g.I.Inventory.value c.loop-item.value in
     let codes = c.pool-pool.ensures.codes in
     let inside : i < n = omega (arith, ap length codes, c.loop-item-test.true) in
-    elim c.if-is-loose.branch [
-      | then-is-loose x ↦
+    elim c.if-is_loose.branch [
+      | then-is_loose x ↦
           ap (λ y. with_items m w (g.I.Inventory.value y) (passing m w test n (i + 1))) x.value-is
           ∙ ap (λ u. with_items m w u (passing m w test n (i + 1))) (x.add.ensures ∙ ap (λ (xs : List ℕ). m.join v (m.grain (get_or xs i 0))) codes)
-          ∙ joined_on m w test n i v inside x.if-is-loose.ensures ∙ c.loop-item.invariant
-      | else-is-loose x ↦
+          ∙ joined_on m w test n i v inside x.if-is_loose.ensures ∙ c.loop-item.invariant
+      | else-is_loose x ↦
           ap (λ y. with_items m w (g.I.Inventory.value y) (passing m w test n (i + 1))) x.value-is
-          ∙ left_out m w test n i v inside x.if-is-loose.ensures ∙ c.loop-item.invariant
+          ∙ left_out m w test n i v inside x.if-is_loose.ensures ∙ c.loop-item.invariant
     ]
 
 pub returns : goal.returns

@@ -17,25 +17,25 @@ never i e = let z : ◌≡◌ {A = ℕ} 0 1 = cc in omega arith
 pub returns-then-count-pool : goal.returns-then-count-pool
 returns-then-count-pool g c =
     let w = world_of c.args.world.now in
-    let size = blank_size w _ c.for-world-table.ensures in
+    let size = blank_size w _ c.for_world-table.ensures in
     too_many g.I.Inventory.meaning w (omega (arith, size, c.count.ensures, ap length c.pool.ensures.codes, c.if-count-pool.true))
 
-pub returns-then-not-can-meet-goal : goal.returns-then-not-can-meet-goal
-returns-then-not-can-meet-goal g c =
+pub returns-then-not-can_meet_goal : goal.returns-then-not-can_meet_goal
+returns-then-not-can_meet_goal g c =
     let w = world_of c.args.world.now in
-    let size = blank_size w _ c.for-world-table.ensures in
-    unmet g.I.Inventory.meaning w (omega (arith, size, c.count.ensures, ap length c.pool.ensures.codes, c.if-count-pool.false)) (sym c.if-not-can-meet-goal.ensures)
+    let size = blank_size w _ c.for_world-table.ensures in
+    unmet g.I.Inventory.meaning w (omega (arith, size, c.count.ensures, ap length c.pool.ensures.codes, c.if-count-pool.false)) (sym c.if-not-can_meet_goal.ensures)
 
-pub invariant-of-result : goal.invariant-of-result
-invariant-of-result g c =
-    (blank_size (world_of c.args.world.now) _ c.for-world-table.ensures, ((λ i e. absurd (never i e)), ((λ i e. absurd (never i e)), tt)))
+pub invariant_of-result : goal.invariant_of-result
+invariant_of-result g c =
+    (blank_size (world_of c.args.world.now) _ c.for_world-table.ensures, ((λ i e. absurd (never i e)), ((λ i e. absurd (never i e)), tt)))
 
 pub returns : goal.returns
 unfolding board_of atlas_of
 returns g c =
     let w = world_of c.args.world.now in
-    let size = blank_size w _ c.for-world-table.ensures in (
-      makes g.I.Inventory.meaning w (omega (arith, size, c.count.ensures, ap length c.pool.ensures.codes, c.if-count-pool.false)) (sym c.if-not-can-meet-goal.ensures),
-      ap (λ (p : Placement). record { placement = p; hand = None }) c.for-world-table.ensures,
+    let size = blank_size w _ c.for_world-table.ensures in (
+      makes g.I.Inventory.meaning w (omega (arith, size, c.count.ensures, ap length c.pool.ensures.codes, c.if-count-pool.false)) (sym c.if-not-can_meet_goal.ensures),
+      ap (λ (p : Placement). record { placement = p; hand = None }) c.for_world-table.ensures,
       refl,
     )

@@ -6,8 +6,8 @@ use Rattle.board.specs.Boards.{atlas_of, board_of}
 use Rattle.board.proofs.Taking.{accepted, refused, kept}
 use Rattle.board.proofs.board.Board.take_up.Goals as goal
 
-pub invariant-of-self : goal.invariant-of-self
-invariant-of-self g c =
+pub invariant_of-self : goal.invariant_of-self
+invariant_of-self g c =
     let b = c.args.self.now in
     let same = kept (placement_of b.layout.table) _ (is_ok c.take_up.result) c.args.place c.take_up.ensures.placement in
     (same.0 ∙ b.fits, (b.hand_known, ((λ i e. same.1 i (b.hand_unset i e)), tt)))
@@ -28,6 +28,6 @@ returns-in-Err g c =
     let b = c.args.self.now in
     let is = refused (atlas_of b) (board_of b) c.args.place b.fits c.in-Err.why (sym c.in-Err.ensures.answer) in
     record {
-      answer = ap Err c.from-table.ensures ∙ sym is.0;
+      answer = ap Err c.from_table.ensures ∙ sym is.0;
       board = (ap (λ (p : Placement). record { placement = p; hand = b.layout.hand }) c.in-Err.ensures.placement ∙ sym is.1, refl);
     }

@@ -5,4 +5,4 @@ use Rattle.board.proofs.board.makes.can_meet_goal.Goals as goal
 
 pub returns : goal.returns
 returns g c =
-    c.goal_met.ensures ∙ met_is g.I.Inventory.meaning (world_of c.args.world.now) _ _ c.stock-value-value.ensures c.add-pool.ensures
+    c.goal_met.ensures ∙ met_is g.I.Inventory.meaning (world_of c.args.world.now) _ _ c.stock_value-value.ensures c.add_pool.ensures

@@ -7,8 +7,8 @@ use Rattle.filling.proofs.items.Items.push.Goals as goal
 pub bounds-self-len : goal.bounds-self-len
 bounds-self-len c = omega (arith, count_is c.args.self.now)
 
-pub invariant-of-self : goal.invariant-of-self
-invariant-of-self c = let counted = count_is c.args.self.now in search rules
+pub invariant_of-self : goal.invariant_of-self
+invariant_of-self c = let counted = count_is c.args.self.now in search rules
 
 pub returns : goal.returns
 unfolding left_in

@@ -5,14 +5,14 @@ use Rattle.filling.specs.Items.{left_in}
 use Rattle.filling.proofs.Gaps.{count_is, gap_next, gap_end}
 use Rattle.filling.proofs.items.Items.remove.Goals as goal
 
-pub offset-bounds-self-index : goal.offset-bounds-self-index
-offset-bounds-self-index c = let counted = count_is c.args.self.now in search rules
+pub offset_bounds-self-index : goal.offset_bounds-self-index
+offset_bounds-self-index c = let counted = count_is c.args.self.now in search rules
 
 pub bounds-self-index : goal.bounds-self-index
 bounds-self-index c = omega (arith, count_is c.args.self.now)
 
-pub overflow-sub-last : goal.overflow-sub-last
-overflow-sub-last c = omega (arith, count_is c.args.self.now)
+pub overflow_sub-last : goal.overflow_sub-last
+overflow_sub-last c = omega (arith, count_is c.args.self.now)
 
 pub loop-gap-preserved : goal.loop-gap-preserved
 loop-gap-preserved c = (

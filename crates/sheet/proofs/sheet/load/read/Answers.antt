@@ -5,13 +5,13 @@ use Rattle.sheet.specs.Files.{entries, count_in, checked, loaded}
 use Rattle.sheet.proofs.Entries.{well_sized}
 use Rattle.sheet.proofs.sheet.load.read.Goals as goal
 
-pub returns-in-default : goal.returns-in-default
+pub returns-in_default : goal.returns-in_default
 unfolding loaded
-returns-in-default c = search rules
+returns-in_default c = search rules
 
-pub returns-then-count-place-count : goal.returns-then-count-place-count
+pub returns-then-count-place_count : goal.returns-then-count-place_count
 unfolding loaded
-returns-then-count-place-count c = search rules
+returns-then-count-place_count c = search rules
 
 pub returns-then-file-count : goal.returns-then-file-count
 unfolding loaded
@@ -22,6 +22,6 @@ returns c =
     let w = world_of c.args.world.now in
     let f = c.args.file.now in
     let two : 2 ≤ length f = search rules in
-    let counted : count_in f ≡ length w.places = sym c.number-count.ensures ∙ c.if-count-place-count.false ∙ c.place-count.ensures.count in
+    let counted : count_in f ≡ length w.places = sym c.number-count.ensures ∙ c.if-count-place_count.false ∙ c.place_count.ensures.count in
     let long : length f ≡ 2 + 2 * count_in f = c.if-file-count.false ∙ ap (λ n. 2 + 2 * n) c.number-count.ensures in
-    c.read-entries.ensures ∙ ap₂ (λ (pool rest : List ℕ). checked (length pool) (entries rest)) c.pool.ensures.codes (take_rest f 2) ∙ well_sized w f two counted long
+    c.read_entries.ensures ∙ ap₂ (λ (pool rest : List ℕ). checked (length pool) (entries rest)) c.pool.ensures.codes (take_rest f 2) ∙ well_sized w f two counted long

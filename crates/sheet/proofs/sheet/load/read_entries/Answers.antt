@@ -10,12 +10,12 @@ loop-left-init c = nothing_seen c.args.pool (placement_of c.new-table.result) c.
 pub returns-in-Some : goal.returns-in-Some
 returns-in-Some c =
     let two : 2 ≤ length c.loop-left.left.now = search rules in
-    refused_next c.args.pool (placement_of c.loop-left.table) c.loop-left.left.now c.args.bytes.now c.item-of-next.result c.loop-left.invariant (c.item-of-next.ensures ∙ ap item_of c.number.ensures) two c.in-Some.why (sym c.in-Some.ensures)
+    refused_next c.args.pool (placement_of c.loop-left.table) c.loop-left.left.now c.args.bytes.now c.item_of-next.result c.loop-left.invariant (c.item_of-next.ensures ∙ ap item_of c.number.ensures) two c.in-Some.why (sym c.in-Some.ensures)
 
 pub loop-left-preserved : goal.loop-left-preserved
 loop-left-preserved c =
     let two : 2 ≤ length c.loop-left.left.now = search rules in
-    seen_next c.args.pool (placement_of c.loop-left.table) c.loop-left.left.now c.args.bytes.now c.item-of-next.result c.loop-left.invariant (c.item-of-next.ensures ∙ ap item_of c.number.ensures) two _ (sym c.in-default-entry-refusal.ensures) c.push.ensures
+    seen_next c.args.pool (placement_of c.loop-left.table) c.loop-left.left.now c.args.bytes.now c.item_of-next.result c.loop-left.invariant (c.item_of-next.ensures ∙ ap item_of c.number.ensures) two _ (sym c.in_default-entry_refusal.ensures) c.push.ensures
 
 pub returns : goal.returns
 returns c =

@@ -7,8 +7,8 @@ use Rattle.sheet.proofs.table.PlaceTable.push.Goals as goal
 pub bounds-self-place : goal.bounds-self-place
 bounds-self-place c = omega (arith, count_is c.args.self.now)
 
-pub invariant-of-self : goal.invariant-of-self
-invariant-of-self c =
+pub invariant_of-self : goal.invariant_of-self
+invariant_of-self c =
     let t = c.args.self.now in
     let counted = count_is t in
     change_keeps t t.count c.args.last _ (omega arith) (omega arith) (omega arith) c.requires.fresh

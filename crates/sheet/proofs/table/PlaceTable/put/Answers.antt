@@ -4,14 +4,14 @@ use Rattle.sheet.specs.Tables.{placement_of}
 use Rattle.sheet.proofs.Tables.{count_is, few_places, change_keeps}
 use Rattle.sheet.proofs.table.PlaceTable.put.Goals as goal
 
-pub offset-bounds-self-place : goal.offset-bounds-self-place
-offset-bounds-self-place c = omega (arith, few_places c.args.self.now)
+pub offset_bounds-self-place : goal.offset_bounds-self-place
+offset_bounds-self-place c = omega (arith, few_places c.args.self.now)
 
 pub bounds-self-place : goal.bounds-self-place
 bounds-self-place c = omega (arith, few_places c.args.self.now)
 
-pub invariant-of-self : goal.invariant-of-self
-invariant-of-self c =
+pub invariant_of-self : goal.invariant_of-self
+invariant_of-self c =
     let t = c.args.self.now in
     let counted = count_is t in
     change_keeps t c.args.place c.args.change t.count (omega arith) (omega arith) t.few c.requires.fresh

@@ -4,8 +4,8 @@ use Rattle.sheet.specs.Tables.{placement_of}
 use Rattle.sheet.proofs.Tables.{none_keep}
 use Rattle.sheet.proofs.table.makes.empty.Goals as goal
 
-pub invariant-of-result : goal.invariant-of-result
-invariant-of-result c = none_keep c.none.result c.args.count c.none.ensures c.requires
+pub invariant_of-result : goal.invariant_of-result
+invariant_of-result c = none_keep c.none.result c.args.count c.none.ensures c.requires
 
 pub returns : goal.returns
 unfolding placement_of

@@ -20,7 +20,7 @@ unfolding draft_of
 returns-then-self-eq0 c =
     let d = c.args.self.now in
     sym (cond-true (eqb d.regions 0) _ _ (eq-eqb _ _ c.if-self-eq0.true))
-    ∙ ap (region_due (draft_of d)) (sym c.in-default.is ∙ c.rule_refusal.ensures)
+    ∙ ap (region_due (draft_of d)) (sym c.in_default.is ∙ c.rule_refusal.ensures)
     ∙ goal_decided d c.args.rule.now c.if-self-ne0.false
 
 pub returns-else-self-eq0 : goal.returns-else-self-eq0
@@ -28,5 +28,5 @@ unfolding draft_of
 returns-else-self-eq0 c =
     let d = c.args.self.now in
     sym (cond-false (eqb d.regions 0) _ _ (ne_eqb _ _ c.if-self-eq0.false))
-    ∙ ap (region_due (draft_of d)) (sym c.in-default.is ∙ c.rule_refusal.ensures)
+    ∙ ap (region_due (draft_of d)) (sym c.in_default.is ∙ c.rule_refusal.ensures)
     ∙ goal_decided d c.args.rule.now c.if-self-ne0.false

@@ -12,10 +12,10 @@ fits_same : (d : Draft) (f : Family) (n : ℕ) → n ≡ count_by (of_family f) 
 unfolding draft_of
 fits_same d f n e = ap (λ (k : ℕ). ltb (length (listed d.kinds)) 64 && ltb k 32) e
 
-pub returns-then-has-room-for-kind : goal.returns-then-has-room-for-kind
-returns-then-has-room-for-kind c =
-    sym (cond-true (kind_fits (draft_of c.args.self.now) c.args.family) _ _ (sym (c.if-has-room-for-kind.ensures ∙ fits_same c.args.self.now c.args.family _ c.kinds-of-number.ensures)))
+pub returns-then-has_room_for_kind : goal.returns-then-has_room_for_kind
+returns-then-has_room_for_kind c =
+    sym (cond-true (kind_fits (draft_of c.args.self.now) c.args.family) _ _ (sym (c.if-has_room_for_kind.ensures ∙ fits_same c.args.self.now c.args.family _ c.kinds_of-number.ensures)))
 
-pub returns-else-has-room-for-kind : goal.returns-else-has-room-for-kind
-returns-else-has-room-for-kind c =
-    sym (cond-false (kind_fits (draft_of c.args.self.now) c.args.family) _ _ (sym (c.if-has-room-for-kind.ensures ∙ fits_same c.args.self.now c.args.family _ c.kinds-of-number.ensures)))
+pub returns-else-has_room_for_kind : goal.returns-else-has_room_for_kind
+returns-else-has_room_for_kind c =
+    sym (cond-false (kind_fits (draft_of c.args.self.now) c.args.family) _ _ (sym (c.if-has_room_for_kind.ensures ∙ fits_same c.args.self.now c.args.family _ c.kinds_of-number.ensures)))

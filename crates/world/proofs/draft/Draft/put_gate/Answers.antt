@@ -14,15 +14,15 @@ use Rattle.world.proofs.Growing.{every_push}
 use Rattle.world.proofs.Making.{back, joined_on}
 use Rattle.world.proofs.draft.Draft.put_gate.Goals as goal
 
-pub invariant-of-self : goal.invariant-of-self
-invariant-of-self c =
+pub invariant_of-self : goal.invariant_of-self
+invariant_of-self c =
     let d = c.args.self.now in
     let rule = c.args.rule.now in
-    let part = c.next-part-part.result in
+    let part = c.next_part-part.result in
     let t = gate_taken d rule c.args.near c.args.far (sym c.requires) in
-    let s = c.next-part-part.ensures.start in
-    let l = c.next-part-part.ensures.len (rule_facts _ _ t.1.proper).short in
-    let g : Gate = record { near = c.args.near; far = c.args.far; rule = part; earlier = c.get-or-earlier.result } in
+    let s = c.next_part-part.ensures.start in
+    let l = c.next_part-part.ensures.len (rule_facts _ _ t.1.proper).short in
+    let g : Gate = record { near = c.args.near; far = c.args.far; rule = part; earlier = c.get_or-earlier.result } in
     let near : c.args.near < d.regions = leb→le _ _ t.0.0 in
     let eg = joined_on (listed d.gates) (g ∷ []) (listed c.push.new.self) c.push.result _ c.push.ensures.fits t.1.roomy c.push.ensures.rows in
     let ew = joined_on (listed d.words) rule (listed c.extend.new.self) c.extend.result _ c.extend.ensures.fits t.1.behind c.extend.ensures.rows in
@@ -50,7 +50,7 @@ invariant-of-self c =
                         ap length el ∙ length-set (listed d.latest) c.args.near (length (listed d.gates) + 1) ∙ d.a_chain_each,
                         (
                           back (λ (ls : List ℕ) (gs : List Gate). (r : ℕ) → r < d.regions → get_or ls r 0 ≡ last_leaving gs r (length gs)) el eg (chains_start (listed d.gates) g d.regions (listed d.latest) d.a_chain_each near d.chains_start),
-                          (subst Chained (sym eg) (chains_go_on (listed d.gates) g (c.get-or-earlier.ensures ∙ d.chains_start c.args.near near) d.chains_go_on), tt),
+                          (subst Chained (sym eg) (chains_go_on (listed d.gates) g (c.get_or-earlier.ensures ∙ d.chains_start c.args.near near) d.chains_go_on), tt),
                         ),
                       ),
                     ),
@@ -68,13 +68,13 @@ unfolding draft_of
 returns c =
     let d = c.args.self.now in
     let rule = c.args.rule.now in
-    let part = c.next-part-part.result in
+    let part = c.next_part-part.result in
     let e = sym c.requires in
     let t = gate_taken d rule c.args.near c.args.far e in
-    let s = c.next-part-part.ensures.start in
-    let l = c.next-part-part.ensures.len (rule_facts _ _ t.1.proper).short in
-    let g : Gate = record { near = c.args.near; far = c.args.far; rule = part; earlier = c.get-or-earlier.result } in
+    let s = c.next_part-part.ensures.start in
+    let l = c.next_part-part.ensures.len (rule_facts _ _ t.1.proper).short in
+    let g : Gate = record { near = c.args.near; far = c.args.far; rule = part; earlier = c.get_or-earlier.result } in
     let eg = joined_on (listed d.gates) (g ∷ []) (listed c.push.new.self) c.push.result _ c.push.ensures.fits t.1.roomy c.push.ensures.rows in
     let ew = joined_on (listed d.words) rule (listed c.extend.new.self) c.extend.result _ c.extend.ensures.fits t.1.behind c.extend.ensures.rows in
     ap₂ (λ (gs : List Gate) (ws : List RuleWord). atlas d.regions (listed d.kinds) gs (listed d.places) ws (listed d.pool) (listed d.stock) d.goal) eg ew
-    ∙ gate_added d rule part s l c.args.near c.args.far c.get-or-earlier.result g refl
+    ∙ gate_added d rule part s l c.args.near c.args.far c.get_or-earlier.result g refl

@@ -10,14 +10,14 @@ use Rattle.world.proofs.Adding.{goal_taken, goal_added, part_sound, sound_goal, 
 use Rattle.world.proofs.Making.{joined_on}
 use Rattle.world.proofs.draft.Draft.put_goal.Goals as goal
 
-pub invariant-of-self : goal.invariant-of-self
-invariant-of-self c =
+pub invariant_of-self : goal.invariant_of-self
+invariant_of-self c =
     let d = c.args.self.now in
     let rule = c.args.rule.now in
-    let part = c.next-part-part.result in
+    let part = c.next_part-part.result in
     let t = goal_taken d rule (sym c.requires) in
-    let s = c.next-part-part.ensures.start in
-    let l = c.next-part-part.ensures.len (rule_facts _ _ t.1.proper).short in
+    let s = c.next_part-part.ensures.start in
+    let l = c.next_part-part.ensures.len (rule_facts _ _ t.1.proper).short in
     let ew = joined_on (listed d.words) rule (listed c.extend.new.self) c.extend.result _ c.extend.ensures.fits t.1.behind c.extend.ensures.rows in (
       d.few_keys,
       (
@@ -46,11 +46,11 @@ unfolding draft_of
 returns c =
     let d = c.args.self.now in
     let rule = c.args.rule.now in
-    let part = c.next-part-part.result in
+    let part = c.next_part-part.result in
     let e = sym c.requires in
     let t = goal_taken d rule e in
-    let s = c.next-part-part.ensures.start in
-    let l = c.next-part-part.ensures.len (rule_facts _ _ t.1.proper).short in
+    let s = c.next_part-part.ensures.start in
+    let l = c.next_part-part.ensures.len (rule_facts _ _ t.1.proper).short in
     let ew = joined_on (listed d.words) rule (listed c.extend.new.self) c.extend.result _ c.extend.ensures.fits t.1.behind c.extend.ensures.rows in
     ap (λ (ws : List RuleWord). atlas d.regions (listed d.kinds) (listed d.gates) (listed d.places) ws (listed d.pool) (listed d.stock) part) ew
     ∙ goal_added d rule part s l

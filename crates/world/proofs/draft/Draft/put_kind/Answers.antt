@@ -18,9 +18,9 @@ use Rattle.world.proofs.Making.{fits_cases}
 use Rattle.world.proofs.Growing.{kind_more, every_weaker, gates_grow, places_grow, goal_grows}
 use Rattle.world.proofs.draft.Draft.put_kind.Goals as goal
 
-pub invariant-of-self : goal.invariant-of-self
+pub invariant_of-self : goal.invariant_of-self
 unfolding draft_of
-invariant-of-self c =
+invariant_of-self c =
     let d = c.args.self.now in
     let room = and_parts (ltb (length (listed d.kinds)) 64) _ (true_if _ (fits_cases (kind_fits (draft_of d) c.args.family) _ c.requires)) in
     let code = c.code-code.result in
@@ -62,7 +62,7 @@ unfolding draft_of
 returns c =
     let d = c.args.self.now in
     let room = and_parts (ltb (length (listed d.kinds)) 64) _ (true_if _ (fits_cases (kind_fits (draft_of d) c.args.family) _ c.requires)) in
-    let coded : c.code-code.result ≡ new_code (draft_of d) c.args.family = c.code-code.ensures ∙ ap (code_of c.args.family) c.kinds-of-number.ensures in
+    let coded : c.code-code.result ≡ new_code (draft_of d) c.args.family = c.code-code.ensures ∙ ap (code_of c.args.family) c.kinds_of-number.ensures in
     let ek : listed c.push.new.self ≡ listed d.kinds ++ new_code (draft_of d) c.args.family ∷ [] =
     c.push.ensures.rows ∙ cond-true c.push.result _ _ (c.push.ensures.fits ∙ room.0) ∙ ap (λ (k : ℕ). listed d.kinds ++ k ∷ []) coded in
     record {

@@ -12,14 +12,14 @@ use Rattle.world.proofs.Growing.{every_push}
 use Rattle.world.proofs.Making.{back, joined_on}
 use Rattle.world.proofs.draft.Draft.put_place.Goals as goal
 
-pub invariant-of-self : goal.invariant-of-self
-invariant-of-self c =
+pub invariant_of-self : goal.invariant_of-self
+invariant_of-self c =
     let d = c.args.self.now in
     let rule = c.args.rule.now in
-    let part = c.next-part-part.result in
+    let part = c.next_part-part.result in
     let t = place_taken d rule c.args.region (sym c.requires) in
-    let s = c.next-part-part.ensures.start in
-    let l = c.next-part-part.ensures.len (rule_facts _ _ t.1.proper).short in
+    let s = c.next_part-part.ensures.start in
+    let l = c.next_part-part.ensures.len (rule_facts _ _ t.1.proper).short in
     let q : Place = record { region = c.args.region; rule = part } in
     let ep = joined_on (listed d.places) (q ∷ []) (listed c.push.new.self) c.push.result _ c.push.ensures.fits t.1.roomy c.push.ensures.rows in
     let ew = joined_on (listed d.words) rule (listed c.extend.new.self) c.extend.result _ c.extend.ensures.fits t.1.behind c.extend.ensures.rows in
@@ -51,11 +51,11 @@ unfolding draft_of
 returns c =
     let d = c.args.self.now in
     let rule = c.args.rule.now in
-    let part = c.next-part-part.result in
+    let part = c.next_part-part.result in
     let e = sym c.requires in
     let t = place_taken d rule c.args.region e in
-    let s = c.next-part-part.ensures.start in
-    let l = c.next-part-part.ensures.len (rule_facts _ _ t.1.proper).short in
+    let s = c.next_part-part.ensures.start in
+    let l = c.next_part-part.ensures.len (rule_facts _ _ t.1.proper).short in
     let q : Place = record { region = c.args.region; rule = part } in
     let ep = joined_on (listed d.places) (q ∷ []) (listed c.push.new.self) c.push.result _ c.push.ensures.fits t.1.roomy c.push.ensures.rows in
     let ew = joined_on (listed d.words) rule (listed c.extend.new.self) c.extend.result _ c.extend.ensures.fits t.1.behind c.extend.ensures.rows in

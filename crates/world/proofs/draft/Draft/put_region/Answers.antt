@@ -7,9 +7,9 @@ use Rattle.world.proofs.Growing.{region_more, gates_grow, places_grow, goal_grow
 use Rattle.world.proofs.Making.{joined_on, fits_cases}
 use Rattle.world.proofs.draft.Draft.put_region.Goals as goal
 
-pub invariant-of-self : goal.invariant-of-self
+pub invariant_of-self : goal.invariant_of-self
 unfolding draft_of
-invariant-of-self c =
+invariant_of-self c =
     let d = c.args.self.now in
     let grown = region_more d.regions (listed d.kinds) (listed d.words) in
     let el = joined_on (listed d.latest) (0 ∷ []) (listed c.push.new.self) c.push.result _ c.push.ensures.fits (subst (λ (n : ℕ). T (ltb n 64)) (sym d.a_chain_each) (fits_cases (ltb d.regions 64) _ c.requires)) c.push.ensures.rows in (

@@ -13,9 +13,9 @@ use Rattle.world.proofs.draft.Draft.put_stock.Goals as goal
 abbrev with_rows : Draft → List ℕ → Atlas
 with_rows d xs = atlas d.regions (listed d.kinds) (listed d.gates) (listed d.places) (listed d.words) (listed d.pool) xs d.goal
 
-pub invariant-of-self : goal.invariant-of-self
+pub invariant_of-self : goal.invariant_of-self
 unfolding draft_of
-invariant-of-self c =
+invariant_of-self c =
     let d = c.args.self.now in
     let l = item_listed (listed d.kinds) (listed d.stock) (listed c.push.new.self) c.args.code 32 _ c.requires c.push.ensures.fits c.push.ensures.rows in
     let known = subst (λ (xs : List ℕ). T (every (of_kinds (listed d.kinds)) xs)) (sym l.pushed) (every_push (of_kinds (listed d.kinds)) (listed d.stock) c.args.code d.stock_known l.known) in

@@ -2,13 +2,13 @@ use Rattle.std.proofs.Common.{◌≡◌, count_by, sym, ap, ◌∙◌, arith, ta
 use Rattle.std.proofs.lemmas.List.Sums.{count_by_more_yes, count_by_more_no}
 use Rattle.model.specs.Proper.{of_family}
 use Rattle.world.proofs.draft.checks.count_of.Goals as goal
-use Rattle.world.proofs.draft.checks.count_of.Goals.{then-is-of, else-is-of}
+use Rattle.world.proofs.draft.checks.count_of.Goals.{then-is_of, else-is_of}
 
 pub loop-code-preserved : goal.loop-code-preserved
 loop-code-preserved c =
-    elim c.if-is-of.branch [
-      | then-is-of w ↦ (omega (arith, count_by_more_yes (of_family c.args.family) c.args.codes.now c.loop-code.code-index 0 c.loop-code-test.true (sym w.if-is-of.ensures)), omega arith)
-      | else-is-of w ↦ (omega (arith, count_by_more_no (of_family c.args.family) c.args.codes.now c.loop-code.code-index 0 c.loop-code-test.true (sym w.if-is-of.ensures)), omega arith)
+    elim c.if-is_of.branch [
+      | then-is_of w ↦ (omega (arith, count_by_more_yes (of_family c.args.family) c.args.codes.now c.loop-code.code-index 0 c.loop-code-test.true (sym w.if-is_of.ensures)), omega arith)
+      | else-is_of w ↦ (omega (arith, count_by_more_no (of_family c.args.family) c.args.codes.now c.loop-code.code-index 0 c.loop-code-test.true (sym w.if-is_of.ensures)), omega arith)
     ]
 
 pub returns : goal.returns

@@ -6,12 +6,12 @@ use Rattle.world.specs.Worlds.{draft_of, world_of}
 use Rattle.world.proofs.Finished.{finished}
 use Rattle.world.proofs.world.World.adopt.Goals as goal
 
-pub invariant-of-self : goal.invariant-of-self
-invariant-of-self c =
-    let f = finished c.args.draft.now (sym c.if-not-is-complete.ensures) in
+pub invariant_of-self : goal.invariant_of-self
+invariant_of-self c =
+    let f = finished c.args.draft.now (sym c.if-not-is_complete.ensures) in
     let e = sym c.swap.ensures.x-after in
     (subst (λ (d : Draft). 1 ≤ d.regions) e f.0, (subst (λ (d : Draft). T (rule_sound (listed d.kinds) (listed d.words) d.goal)) e f.1, tt))
 
 pub returns : goal.returns
 unfolding world_of
-returns c = record { answer = c.if-not-is-complete.ensures; world = ap draft_of c.swap.ensures.x-after; draft = c.clear.ensures }
+returns c = record { answer = c.if-not-is_complete.ensures; world = ap draft_of c.swap.ensures.x-after; draft = c.clear.ensures }

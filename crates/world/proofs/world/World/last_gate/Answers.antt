@@ -9,6 +9,6 @@ unfolding draft_of world_of gate_rows
 returns c =
     let d = c.args.self.now.made in
     record {
-      known = λ h. c.last-gate.ensures ∙ d.chains_start c.args.region h;
-      unknown = λ h. c.last-gate.ensures ∙ get_or_past (listed d.latest) c.args.region 0 (omega (arith, d.a_chain_each));
+      known = λ h. c.last_gate.ensures ∙ d.chains_start c.args.region h;
+      unknown = λ h. c.last_gate.ensures ∙ get_or_past (listed d.latest) c.args.region 0 (omega (arith, d.a_chain_each));
     }

@@ -14,12 +14,12 @@ region_on w = left (region_refusal w) (with_region w) w
 abbrev goal_on : Atlas → Atlas
 goal_on w = left (goal_refusal w (Free ∷ [])) (with_goal w (Free ∷ [])) w
 
-pub invariant-of-result : goal.invariant-of-result
-invariant-of-result c =
-    let made = c.set-goal.ensures.draft ∙ ap goal_on (c.add-region.ensures.draft ∙ ap region_on c.in-ok-made.ensures) in
-    let f = finished c.set-goal.new.self (ap complete made) in
+pub invariant_of-result : goal.invariant_of-result
+invariant_of-result c =
+    let made = c.set_goal.ensures.draft ∙ ap goal_on (c.add_region.ensures.draft ∙ ap region_on c.in_ok-made.ensures) in
+    let f = finished c.set_goal.new.self (ap complete made) in
     (f.0, (f.1, tt))
 
 pub returns : goal.returns
 unfolding world_of
-returns c = c.set-goal.ensures.draft ∙ ap goal_on (c.add-region.ensures.draft ∙ ap region_on c.in-ok-made.ensures)
+returns c = c.set_goal.ensures.draft ∙ ap goal_on (c.add_region.ensures.draft ∙ ap region_on c.in_ok-made.ensures)

@@ -7,4 +7,4 @@ pub returns : goal.returns
 unfolding draft_of world_of
 returns c =
     let w = c.args.self.now in
-    record { count = c.region-count.ensures; some = omega (arith, c.region-count.ensures, w.some_region); few = omega (arith, c.region-count.ensures, w.made.latest.few, w.made.a_chain_each); is_proper = is_proper w }
+    record { count = c.region_count.ensures; some = omega (arith, c.region_count.ensures, w.some_region); few = omega (arith, c.region_count.ensures, w.made.latest.few, w.made.a_chain_each); is_proper = is_proper w }
