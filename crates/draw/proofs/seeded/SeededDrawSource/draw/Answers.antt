@@ -5,4 +5,4 @@ use Rattle.draw.proofs.seeded.SeededDrawSource.draw.Goals as goal
 pub invariant_of-self : goal.invariant_of-self
 invariant_of-self c =
     let live = xorshift_live c.args.self.now.state c.args.self.now.live (omega arith) in
-    (omega (arith, c.mixed-self.ensures), tt)
+    record { live = omega (arith, c.mixed-self.ensures) }
