@@ -1,5 +1,5 @@
 -- A 64-bit xorshift of a number that is not 0 is not 0, since each of its steps gives 0 only at 0.
-use Rattle.std.proofs.Common.{◌≡◌, ℕ, zero, suc, ◌+◌, ◌*◌, ◌/◌, ◌%◌, ◌^◌, ◌<◌, ◌⊎◌, sym, ap, ◌∙◌, ap₂, inl, inr, add-zero, mod-lt, mul_assoc, add-one, arith}
+use Rattle.std.proofs.Common.{◌≡◌, ℕ, zero, suc, ◌+◌, ◌*◌, ◌/◌, ◌%◌, ◌^◌, ◌<◌, sym, ap, ◌∙◌, ap₂, inl, inr, add-zero, mod-lt, mul_assoc, add-one, arith}
 use native.Mathlib.Nat.{pow-succ'}
 use lib.Bits.{bit_xor, xor_assoc, xor_self, xor_zero_r, xor_lt, shifted_half, shifted_even}
 use Rattle.std.proofs.lemmas.Nat.{mod-pow-add, pow_pos}

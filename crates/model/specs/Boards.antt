@@ -1,5 +1,5 @@
 -- Boards: what each call leaves, or why it is refused; a refusal leaves the board as it was.
-use Rattle.std.specs.Prelude.{ℕ, Bool, true, false, cond, not, ◌&&◌, List, map, length, set, Some, None, Ok, Err, filter, Option, Result, ◌==◌, nat_lt, slice_set}
+use Rattle.std.specs.Prelude.{ℕ, Bool, true, false, cond, not, ◌&&◌, List, map, length, Some, None, Ok, Err, filter, Option, Result, ◌==◌, nat_lt, slice_set}
 use Rattle.inventory.specs.Meaning.{Meaning, held}
 use Rattle.model.specs.declared.board_refusal.BoardRefusal.{BoardRefusal}
 use Rattle.model.specs.declared.board_refusal.BoardRefusal.TheVariants.{FewMarks, TooManyItems, GoalUnmet, NoItem, HandFull, ItemSet, NotInHand, NoPlace, PlaceTaken, NotGathered, PlaceEmpty}

@@ -1,5 +1,5 @@
 -- Fills: a place is drawn for each item that is not set.
-use Rattle.std.specs.Prelude.{ℕ, zero, suc, cond, not, ◌&&◌, ◌||◌, List, length, set, Some, None, Ok, Err, filter, Result, ◌==◌, nat_lt, slice_index, slice_set}
+use Rattle.std.specs.Prelude.{ℕ, zero, suc, cond, not, ◌&&◌, ◌||◌, List, length, Some, None, Ok, Err, filter, Result, ◌==◌, nat_lt, slice_index, slice_set}
 use Rattle.std.specs.List.{remove, range_with_len}
 use Rattle.inventory.specs.Meaning.{Meaning}
 use Rattle.draw.specs.Source.{Source}

@@ -1,5 +1,5 @@
 -- What is shown of words and of rows of bytes.
-use Rattle.std.specs.Prelude.{◌≡◌, ℕ, ◌≤◌, true, false, ◌⊎◌, List, [], ◌∷◌, Some, decimal, ◌==◌}
+use Rattle.std.specs.Prelude.{◌≡◌, ℕ, ◌≤◌, true, false, ◌⊎◌, List, ◌∷◌, Some, decimal, ◌==◌}
 use Rattle.words.specs.Spelling.{Bytes, each, wording, is_word, amount}
 use Rattle.words.specs.Splitting.{parts, glued, lacks}
 use Rattle.words.specs.Saying.{Class, other, class, Spelled}

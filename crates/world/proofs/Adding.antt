@@ -1,13 +1,13 @@
 -- A rule put behind the words of a draft, with its row.
-use Rattle.std.proofs.Common.{◌≡◌, ℕ, ◌+◌, ◌<◌, ◌≤◌, Bool, true, false, cond, ◌&&◌, T, eqb, ltb, leb, List, [], ◌∷◌, ◌++◌, map, length, take, drop, Some, None, sum_by, Option, sym, refl, ap, ◌∙◌, subst, ap₂, inl, inr, arith, le→leb, length-append, take_all}
+use Rattle.std.proofs.Common.{◌≡◌, ℕ, ◌<◌, Bool, true, false, cond, ◌&&◌, T, eqb, ltb, List, [], ◌∷◌, ◌++◌, map, length, take, drop, Some, None, Option, sym, refl, ap, ◌∙◌, subst, ap₂, inl, inr, arith, le→leb, length-append, take_all}
 use lib.ListN.{length-map}
 use Rattle.std.proofs.lemmas.List.{drop_at, map_push}
 use Rattle.std.proofs.lemmas.List.Sums.{sum_by_push}
 use Rattle.std.proofs.lemmas.Bool.{cond-true, eq-eqb, ne_eqb, eqb-true, cases_lt}
 use Rattle.model.specs.declared.rule_word.RuleWord.{RuleWord}
 use Rattle.model.specs.Marks.{every}
-use Rattle.model.specs.Proper.{proper_rule, words_in}
-use Rattle.model.specs.Worlds.{World as Atlas, Gate as Gateway, Place as Spot}
+use Rattle.model.specs.Proper.{proper_rule}
+use Rattle.model.specs.Worlds.{Gate as Gateway, Place as Spot}
 use Rattle.model.proofs.Sets.{and_both, and_from, true_if}
 use Rattle.world.specs.declared.rows.Part.{Part}
 use Rattle.world.specs.declared.rows.Gate.{Gate}
@@ -18,7 +18,7 @@ use Rattle.world.specs.Building.{rule_refusal, gate_refusal, place_refusal, goal
 use Rattle.world.specs.Listed.{listed}
 use Rattle.world.specs.Rows.{inside, words, gate_of, place_of, atlas, rule_sound, gate_sound, place_sound, goal_sound, words_of}
 use Rattle.world.specs.Worlds.{draft_of}
-use Rattle.world.proofs.Growing.{Grows, words_more, every_push, gates_grow, places_grow, goal_grows, gates_same, places_same, goal_inside}
+use Rattle.world.proofs.Growing.{Grows, words_more, gates_grow, places_grow, goal_grows, gates_same, places_same, goal_inside}
 use Rattle.world.proofs.Tables.{draft_words, length_words}
 use Rattle.world.proofs.Making.{none_some, Taken, rule_taken}
 

@@ -1,11 +1,10 @@
 -- The invariant of a draft in which nothing is made.
-use Rattle.std.proofs.Common.{◌≡◌, ℕ, ◌<◌, ◌≤◌, T, leb, List, [], length, get_or, count_by, sym, ap, ◌∙◌, subst, ap₂, arith, le→leb}
+use Rattle.std.proofs.Common.{◌≡◌, ℕ, ◌<◌, ◌≤◌, T, List, [], length, get_or, count_by, sym, ap, ◌∙◌, subst, ap₂, arith, le→leb}
 use Rattle.inventory.specs.declared.family.Family.{Family}
 use Rattle.inventory.specs.declared.family.Family.TheVariants.{Key, Count, Tier}
 use Rattle.model.specs.declared.rule_word.RuleWord.{RuleWord}
 use Rattle.model.specs.Marks.{every}
 use Rattle.model.specs.Proper.{of_family, of_kinds}
-use Rattle.model.specs.Worlds.{World as Atlas}
 use Rattle.world.specs.declared.rows.Part.{Part}
 use Rattle.world.specs.declared.rows.Gate.{Gate}
 use Rattle.world.specs.declared.rows.Place.{Place}

@@ -1,10 +1,10 @@
 -- Tests of a list, element by element: what is left gives the whole.
-use Rattle.std.proofs.Common.{◌≡◌, ℕ, ◌+◌, ◌<◌, ◌≤◌, Bool, true, false, ◌&&◌, ◌||◌, List, [], ◌∷◌, length, get_or, drop, Some, None, Option, sym, refl, ap, ◌∙◌}
+use Rattle.std.proofs.Common.{◌≡◌, ℕ, ◌+◌, ◌<◌, ◌≤◌, Bool, true, false, ◌&&◌, ◌||◌, List, length, get_or, drop, Some, None, Option, sym, refl, ap, ◌∙◌}
 use Rattle.std.proofs.lemmas.List.{at_drop_more, at_drop_all}
 use Rattle.model.specs.declared.rule_word.RuleWord.{RuleWord}
 use Rattle.model.specs.declared.rule_word.RuleWord.TheVariants.{Free}
 use Rattle.model.specs.Marks.{any, every}
-use Rattle.model.specs.Rules.{weigh, weighed, one_left}
+use Rattle.model.specs.Rules.{weigh, weighed}
 
 module _ {X : Type 0} (f : X → Bool) (xs : List X) (i : ℕ) where
   pub every_next : (d : X) → i < length xs → f (get_or xs i d) ≡ true → every f (drop (i + 1) xs) ≡ every f (drop i xs)

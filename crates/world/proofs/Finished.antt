@@ -1,12 +1,12 @@
 -- A draft that is complete is a world.
-use Rattle.std.proofs.Common.{◌≡◌, ℕ, ◌<◌, ◌≤◌, Bool, true, false, cond, not, ◌&&◌, T, eqb, List, length, sym, ap, ◌∙◌, subst, inl, inr, arith}
+use Rattle.std.proofs.Common.{◌≡◌, ℕ, ◌≤◌, Bool, true, false, cond, not, ◌&&◌, T, eqb, List, sym, ap, ◌∙◌, inl, inr, arith}
 use Rattle.std.proofs.lemmas.Bool.{and_parts, not-true, cases_lt, eq-eqb, both_ways}
 use Rattle.model.specs.declared.rule_word.RuleWord.{RuleWord}
 use Rattle.world.specs.declared.rows.Part.{Part}
 use Rattle.world.specs.declared.draft.Draft.{Draft}
 use Rattle.world.specs.Building.{complete}
 use Rattle.world.specs.Listed.{listed}
-use Rattle.world.specs.Rows.{inside, rule_sound, goal_sound}
+use Rattle.world.specs.Rows.{inside, rule_sound}
 use Rattle.world.specs.Worlds.{draft_of}
 use Rattle.world.proofs.Adding.{goal_length}
 

@@ -1,12 +1,11 @@
 -- Rows stay sound, and stand for the same, where regions, kinds or words are added.
-use Rattle.std.proofs.Common.{◌≡◌, ℕ, ◌+◌, ◌<◌, ◌≤◌, Bool, true, false, cond, ◌&&◌, ◌||◌, T, eqb, ltb, leb, List, [], ◌∷◌, ◌++◌, map, length, take, drop, sym, refl, ap, ◌∙◌, subst, inl, inr, arith, le→leb, leb→le, length-append, length-drop}
+use Rattle.std.proofs.Common.{◌≡◌, ℕ, ◌+◌, ◌<◌, ◌≤◌, Bool, true, false, cond, T, eqb, ltb, List, [], ◌∷◌, ◌++◌, map, length, take, drop, sym, refl, ap, ◌∙◌, subst, inl, inr, arith, le→leb, leb→le, length-append, length-drop}
 use Rattle.std.proofs.lemmas.List.{drop-append-le, take-append-le}
 use Rattle.std.proofs.lemmas.Bool.{cond-true}
 use Rattle.model.specs.declared.rule_word.RuleWord.{RuleWord}
 use Rattle.model.specs.declared.rule_word.RuleWord.TheVariants.{Free, Need, And, Or}
 use Rattle.model.specs.Marks.{any, every}
 use Rattle.model.specs.Proper.{of_kinds, names_kinds, proper_rule}
-use Rattle.model.specs.Worlds.{Gate as Gateway, Place as Spot}
 use Rattle.model.proofs.Sets.{and_both, and_from, and_map, or_left, or_right, or_cases, true_if}
 use Rattle.model.proofs.Limits.{every_all, all_every, rule_facts, rule_test}
 use Rattle.world.specs.declared.rows.Part.{Part}

@@ -1,5 +1,5 @@
 -- What is known of a world's rows.
-use Rattle.std.proofs.Common.{◌≡◌, ℕ, ◌<◌, ◌&&◌, T, ltb, List, refl, leb→le}
+use Rattle.std.proofs.Common.{ℕ, T, ltb, List, refl, leb→le}
 use Rattle.world.specs.Listed.{listed}
 use Rattle.std.specs.List.{AllByRecursion as All}
 use Rattle.model.specs.declared.rule_word.RuleWord.{RuleWord}

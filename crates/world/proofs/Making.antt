@@ -1,15 +1,13 @@
 -- One row more in a draft, taken in or refused.
-use Rattle.std.proofs.Common.{◌≡◌, ℕ, ◌+◌, ◌<◌, ◌≤◌, Bool, true, false, cond, ◌&&◌, T, ltb, leb, List, [], ◌∷◌, ◌++◌, length, Some, None, Option, sym, refl, ap, ◌∙◌, subst, arith}
+use Rattle.std.proofs.Common.{◌≡◌, ℕ, ◌+◌, Bool, true, false, cond, ◌&&◌, T, ltb, leb, List, [], ◌∷◌, ◌++◌, length, Some, None, Option, sym, ◌∙◌, subst, arith}
 use Rattle.std.proofs.lemmas.Bool.{cond-true}
 use Rattle.model.specs.declared.rule_word.RuleWord.{RuleWord}
 use Rattle.model.specs.Marks.{every}
 use Rattle.model.specs.Rules.{formed}
 use Rattle.model.specs.Proper.{of_kinds, names_kinds, proper_rule}
-use Rattle.model.specs.Worlds.{World as Atlas}
 use Rattle.model.proofs.Sets.{and_both, and_from, true_if}
 use Rattle.world.specs.declared.refusal.BuildRefusal.{BuildRefusal}
-use Rattle.world.specs.Building.{left, item_refusal, rule_fits, rule_refusal}
-use Rattle.world.proofs.Growing.{every_push}
+use Rattle.world.specs.Building.{item_refusal, rule_fits, rule_refusal}
 
 pub none_some : {A : Type 0} (why : BuildRefusal) → ◌≡◌ {A = Option BuildRefusal} None (Some why) → A
 none_some why e = absurd (let z : ◌≡◌ {A = ℕ} 0 1 = cc in omega arith)

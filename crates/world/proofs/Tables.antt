@@ -1,8 +1,7 @@
 -- Tables that fit together stand for a proper world.
-use Rattle.std.proofs.Common.{◌≡◌, ℕ, ◌+◌, ◌<◌, ◌≤◌, Bool, true, cond, ◌&&◌, T, eqb, ltb, List, [], ◌∷◌, map, length, take, drop, sum_by, sym, refl, ap, ◌∙◌, ap₂, arith, leb→le, length-drop, length-take}
+use Rattle.std.proofs.Common.{◌≡◌, ℕ, ◌+◌, ◌≤◌, Bool, T, ltb, List, [], ◌∷◌, map, length, sum_by, sym, refl, ap, ◌∙◌, ap₂, arith, leb→le, length-drop, length-take}
 use lib.ListN.{length-map}
 use Rattle.world.specs.Listed.{listed}
-use Rattle.std.specs.List.{AllByRecursion as All}
 use Rattle.std.proofs.lemmas.Bool.{cond-true}
 use Rattle.std.proofs.lemmas.List.Sums.{sum_by-cons}
 use Rattle.std.proofs.ByRecursion.{All-map}
@@ -10,8 +9,8 @@ use Rattle.inventory.specs.declared.family.Family.{Family}
 use Rattle.inventory.specs.declared.family.Family.TheVariants.{Key, Count, Tier}
 use Rattle.model.specs.declared.rule_word.RuleWord.{RuleWord}
 use Rattle.model.specs.Marks.{every}
-use Rattle.model.specs.Proper.{proper, proper_gate, proper_place, Proper, ProperGate, ProperPlace, words_in, kinds_of, of_kinds}
-use Rattle.model.specs.Worlds.{World as Atlas, Gate as Gateway, Place as Spot}
+use Rattle.model.specs.Proper.{proper, Proper, ProperGate, ProperPlace, words_in, kinds_of}
+use Rattle.model.specs.Worlds.{Gate as Gateway, Place as Spot}
 use Rattle.model.proofs.Sets.{and_both, true_if}
 use Rattle.model.proofs.Limits.{every_all, rule_facts, proper_laws}
 use Rattle.world.specs.declared.rows.Part.{Part}
@@ -19,7 +18,7 @@ use Rattle.world.specs.declared.rows.Gate.{Gate}
 use Rattle.world.specs.declared.rows.Place.{Place}
 use Rattle.world.specs.declared.draft.Draft.{Draft}
 use Rattle.world.specs.declared.world.World.{World}
-use Rattle.world.specs.Rows.{inside, words, gate_of, place_of, rule_sound, gate_sound, place_sound, goal_sound, words_of}
+use Rattle.world.specs.Rows.{inside, words, gate_of, place_of, gate_sound, place_sound, words_of}
 use Rattle.world.specs.Worlds.{draft_of, world_of}
 use Rattle.world.proofs.Growing.{goal_inside}
 

@@ -1,5 +1,5 @@
 -- What the rows of a world's tables mean, and when they fit together.
-use Rattle.std.specs.Prelude.{ℕ, zero, suc, ◌+◌, Bool, true, cond, ◌&&◌, List, [], map, length, take, drop, sum_by, ◌==◌, nat_le, nat_lt, slice_index}
+use Rattle.std.specs.Prelude.{ℕ, zero, suc, ◌+◌, Bool, cond, ◌&&◌, List, [], map, length, take, drop, sum_by, ◌==◌, nat_le, nat_lt, slice_index}
 use Rattle.model.specs.declared.rule_word.RuleWord.{RuleWord}
 use Rattle.model.specs.Proper.{proper_rule}
 use Rattle.model.specs.Worlds.{World as Atlas, Gate as Gateway, Place as Spot}

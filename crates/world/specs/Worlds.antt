@@ -1,5 +1,5 @@
 -- What a draft and a world stand for, and what is known of their rows.
-use Rattle.std.specs.Prelude.{◌≡◌, ℕ, ◌<◌, ◌≤◌, T, List, map, length}
+use Rattle.std.specs.Prelude.{◌≡◌, ℕ, ◌<◌, T, List, length}
 use Rattle.world.specs.Listed.{listed}
 use Rattle.model.specs.declared.rule_word.RuleWord.{RuleWord}
 use Rattle.model.specs.Rules.{formed}

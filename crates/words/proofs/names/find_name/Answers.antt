@@ -1,4 +1,4 @@
-use Rattle.std.proofs.Common.{◌≡◌, sym, refl, ap, ◌∙◌, subst}
+use Rattle.std.proofs.Common.{sym, ◌∙◌}
 use Rattle.words.proofs.Lookups.{name_here, name_on, name_none}
 use Rattle.words.proofs.names.find_name.Goals as goal
 

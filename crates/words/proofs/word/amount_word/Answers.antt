@@ -1,6 +1,6 @@
 use Rattle.std.proofs.Common.{sym, refl, ap}
 use Rattle.words.specs.Spelling.{amount}
-use Rattle.words.specs.Splitting.{front, behind}
+use Rattle.words.specs.Splitting.{front}
 use Rattle.words.specs.Saying.{with_amount}
 use Rattle.words.proofs.word.amount_word.Goals as goal
 

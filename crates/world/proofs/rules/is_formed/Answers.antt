@@ -1,4 +1,4 @@
-use Rattle.std.proofs.Common.{◌≡◌, Some, None, sym, ap, ◌∙◌}
+use Rattle.std.proofs.Common.{Some, None, sym, ap, ◌∙◌}
 use Rattle.model.specs.Rules.{one_left}
 use Rattle.world.proofs.Checking.{weighed_drop, weighed_end}
 use Rattle.world.proofs.rules.is_formed.Goals as goal

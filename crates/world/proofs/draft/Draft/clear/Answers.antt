@@ -1,5 +1,4 @@
 use Rattle.world.specs.Worlds.{draft_of}
-use Rattle.std.proofs.Common.{ℕ, List}
 use Rattle.world.proofs.Blank.{blank_world}
 use Rattle.world.proofs.draft.Draft.clear.Goals as goal
 

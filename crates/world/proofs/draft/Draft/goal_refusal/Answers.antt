@@ -1,4 +1,4 @@
-use Rattle.std.proofs.Common.{◌≡◌, eqb, length, Some, None, sym, ap, ◌∙◌, arith}
+use Rattle.std.proofs.Common.{eqb, length, sym, ap, ◌∙◌}
 use Rattle.std.proofs.lemmas.Bool.{cond-true, cond-false, eq-eqb, ne_eqb}
 use Rattle.world.specs.Building.{region_due}
 use Rattle.world.specs.Worlds.{draft_of}

@@ -1,4 +1,4 @@
-use Rattle.std.proofs.Common.{◌≡◌, sym, ◌∙◌}
+use Rattle.std.proofs.Common.{sym, ◌∙◌}
 use Rattle.model.specs.declared.rule_word.RuleWord.TheVariants.{Free}
 use Rattle.model.specs.Proper.{names_kinds}
 use Rattle.world.specs.Listed.{listed}

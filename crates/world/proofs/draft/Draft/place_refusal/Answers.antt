@@ -1,4 +1,4 @@
-use Rattle.std.proofs.Common.{◌≡◌, ltb, sym, ◌∙◌, arith}
+use Rattle.std.proofs.Common.{ltb, sym, ◌∙◌}
 use Rattle.std.proofs.lemmas.Bool.{cond-false, le-ltb}
 use Rattle.world.specs.Worlds.{draft_of}
 use Rattle.world.proofs.Adding.{place_decided}

@@ -1,5 +1,4 @@
-use Rattle.std.proofs.Common.{◌≡◌, cond, T, eqb, List, ◌++◌, length, sym, ap, ◌∙◌, subst, arith}
-use Rattle.std.proofs.lemmas.Bool.{cond-false}
+use Rattle.std.proofs.Common.{◌≡◌, T, List, ◌++◌, length, sym, ap, ◌∙◌, subst}
 use Rattle.model.specs.declared.rule_word.RuleWord.{RuleWord}
 use Rattle.model.specs.Marks.{every}
 use Rattle.model.proofs.Limits.{rule_facts}
@@ -18,28 +17,20 @@ invariant_of-self c =
     let t = goal_taken d rule (sym c.requires) in
     let s = c.next_part-part.ensures.start in
     let l = c.next_part-part.ensures.len (rule_facts _ _ t.1.proper).short in
-    let ew = joined_on (listed d.words) rule (listed c.extend.new.self) c.extend.result _ c.extend.ensures.fits t.1.behind c.extend.ensures.rows in (
-      d.few_keys,
-      (
-        d.few_counts,
-        (
-          d.few_tiers,
-          (
-            subst (λ (ws : List RuleWord). words_of (listed d.gates) (listed d.places) part ≡ length ws) (sym ew) (counted_with_goal d rule part s l t.0),
-            (
-              subst (λ (ws : List RuleWord). T (every (gate_sound d.regions (listed d.kinds) ws) (listed d.gates))) (sym ew) (gates_lead d rule part s l),
-              (
-                subst (λ (ws : List RuleWord). T (every (place_sound d.regions (listed d.kinds) ws) (listed d.places))) (sym ew) (places_lie d rule part s l),
-                (
-                  subst (λ (ws : List RuleWord). T (goal_sound (listed d.kinds) ws part)) (sym ew) (sound_goal (listed d.kinds) (listed d.words ++ rule) part (part_sound (listed d.kinds) (listed d.words) rule part s l t.1.proper)),
-                  (d.pool_known, (d.stock_known, (d.a_chain_each, (d.chains_start, (d.chains_go_on, tt))))),
-                ),
-              ),
-            ),
-          ),
-        ),
-      ),
-    )
+    let ew = joined_on (listed d.words) rule (listed c.extend.new.self) c.extend.result _ c.extend.ensures.fits t.1.behind c.extend.ensures.rows in record {
+      few_keys = d.few_keys;
+      few_counts = d.few_counts;
+      few_tiers = d.few_tiers;
+      counted = subst (λ (ws : List RuleWord). words_of (listed d.gates) (listed d.places) part ≡ length ws) (sym ew) (counted_with_goal d rule part s l t.0);
+      gates_lead = subst (λ (ws : List RuleWord). T (every (gate_sound d.regions (listed d.kinds) ws) (listed d.gates))) (sym ew) (gates_lead d rule part s l);
+      places_lie = subst (λ (ws : List RuleWord). T (every (place_sound d.regions (listed d.kinds) ws) (listed d.places))) (sym ew) (places_lie d rule part s l);
+      goal_kept = subst (λ (ws : List RuleWord). T (goal_sound (listed d.kinds) ws part)) (sym ew) (sound_goal (listed d.kinds) (listed d.words ++ rule) part (part_sound (listed d.kinds) (listed d.words) rule part s l t.1.proper));
+      pool_known = d.pool_known;
+      stock_known = d.stock_known;
+      a_chain_each = d.a_chain_each;
+      chains_start = d.chains_start;
+      chains_go_on = d.chains_go_on;
+    }
 
 pub returns : goal.returns
 unfolding draft_of

@@ -1,4 +1,4 @@
-use Rattle.std.proofs.Common.{◌≡◌, ℕ, T, ltb, List, length, sym, ap, ◌∙◌, subst}
+use Rattle.std.proofs.Common.{ℕ, T, List, sym, ap, subst}
 use Rattle.model.specs.Marks.{every}
 use Rattle.model.specs.Proper.{of_kinds}
 use Rattle.model.specs.Worlds.{World as Atlas}
@@ -19,7 +19,20 @@ invariant_of-self c =
     let d = c.args.self.now in
     let l = item_listed (listed d.kinds) (listed d.pool) (listed c.push.new.self) c.args.code 256 _ c.requires c.push.ensures.fits c.push.ensures.rows in
     let known = subst (λ (xs : List ℕ). T (every (of_kinds (listed d.kinds)) xs)) (sym l.pushed) (every_push (of_kinds (listed d.kinds)) (listed d.pool) c.args.code d.pool_known l.known) in
-    (d.few_keys, (d.few_counts, (d.few_tiers, (d.counted, (d.gates_lead, (d.places_lie, (d.goal_kept, (known, (d.stock_known, (d.a_chain_each, (d.chains_start, (d.chains_go_on, tt))))))))))))
+    record {
+      few_keys = d.few_keys;
+      few_counts = d.few_counts;
+      few_tiers = d.few_tiers;
+      counted = d.counted;
+      gates_lead = d.gates_lead;
+      places_lie = d.places_lie;
+      goal_kept = d.goal_kept;
+      pool_known = known;
+      stock_known = d.stock_known;
+      a_chain_each = d.a_chain_each;
+      chains_start = d.chains_start;
+      chains_go_on = d.chains_go_on;
+    }
 
 pub returns : goal.returns
 unfolding draft_of

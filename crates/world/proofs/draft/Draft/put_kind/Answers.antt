@@ -1,14 +1,11 @@
-use Rattle.std.proofs.Common.{◌≡◌, ℕ, ◌<◌, ◌≤◌, ◌&&◌, T, ltb, List, [], ◌∷◌, ◌++◌, length, Ok, Err, count_by, sym, ap, ◌∙◌, subst, arith, leb→le}
-use Rattle.std.proofs.lemmas.Bool.{cond-true, cond-false, and_parts, ltb-true}
+use Rattle.std.proofs.Common.{◌≡◌, ℕ, ◌<◌, ◌≤◌, T, ltb, List, [], ◌∷◌, ◌++◌, length, count_by, sym, ap, ◌∙◌, subst}
+use Rattle.std.proofs.lemmas.Bool.{cond-true, and_parts, ltb-true}
 use Rattle.inventory.specs.declared.family.Family.{Family}
 use Rattle.inventory.specs.declared.family.Family.TheVariants.{Key, Count, Tier}
 use Rattle.inventory.specs.Families.{code_of}
-use Rattle.model.specs.declared.rule_word.RuleWord.{RuleWord}
 use Rattle.model.specs.Marks.{every}
 use Rattle.model.specs.Proper.{of_family, of_kinds}
-use Rattle.model.specs.Worlds.{World as Atlas}
 use Rattle.model.proofs.Sets.{true_if}
-use Rattle.world.specs.declared.draft.Draft.{Draft}
 use Rattle.world.specs.Listed.{listed}
 use Rattle.world.specs.Building.{kind_fits, new_code}
 use Rattle.world.specs.Rows.{atlas, gate_sound, place_sound, goal_sound}
@@ -28,34 +25,20 @@ invariant_of-self c =
     let ek : listed c.push.new.self ≡ listed d.kinds ++ code ∷ [] = c.push.ensures.rows ∙ cond-true c.push.result _ _ (c.push.ensures.fits ∙ room.0) in
     let grown = kind_more d.regions (listed d.kinds) code (listed d.words) in
     let of_code : (g : Family) → count_by (of_family g) (listed d.kinds) ≤ 32 → count_by (of_family g) (listed c.push.new.self) ≤ 32 = λ g h.
-    subst (λ (ks : List ℕ). count_by (of_family g) ks ≤ 32) (sym (ek ∙ ap (λ (k : ℕ). listed d.kinds ++ k ∷ []) c.code-code.ensures)) (still_few c.args.family g (listed d.kinds) _ few h) in (
-      of_code Key d.few_keys,
-      (
-        of_code Count d.few_counts,
-        (
-          of_code Tier d.few_tiers,
-          (
-            d.counted,
-            (
-              subst (λ (ks : List ℕ). T (every (gate_sound d.regions ks (listed d.words)) (listed d.gates))) (sym ek) (gates_grow grown (listed d.gates) d.gates_lead),
-              (
-                subst (λ (ks : List ℕ). T (every (place_sound d.regions ks (listed d.words)) (listed d.places))) (sym ek) (places_grow grown (listed d.places) d.places_lie),
-                (
-                  subst (λ (ks : List ℕ). T (goal_sound ks (listed d.words) d.goal)) (sym ek) (goal_grows grown d.goal d.goal_kept),
-                  (
-                    subst (λ (ks : List ℕ). T (every (of_kinds ks) (listed d.pool))) (sym ek) (every_weaker _ _ grown.more_kinds (listed d.pool) d.pool_known),
-                    (
-                      subst (λ (ks : List ℕ). T (every (of_kinds ks) (listed d.stock))) (sym ek) (every_weaker _ _ grown.more_kinds (listed d.stock) d.stock_known),
-                      (d.a_chain_each, (d.chains_start, (d.chains_go_on, tt))),
-                    ),
-                  ),
-                ),
-              ),
-            ),
-          ),
-        ),
-      ),
-    )
+    subst (λ (ks : List ℕ). count_by (of_family g) ks ≤ 32) (sym (ek ∙ ap (λ (k : ℕ). listed d.kinds ++ k ∷ []) c.code-code.ensures)) (still_few c.args.family g (listed d.kinds) _ few h) in record {
+      few_keys = of_code Key d.few_keys;
+      few_counts = of_code Count d.few_counts;
+      few_tiers = of_code Tier d.few_tiers;
+      counted = d.counted;
+      gates_lead = subst (λ (ks : List ℕ). T (every (gate_sound d.regions ks (listed d.words)) (listed d.gates))) (sym ek) (gates_grow grown (listed d.gates) d.gates_lead);
+      places_lie = subst (λ (ks : List ℕ). T (every (place_sound d.regions ks (listed d.words)) (listed d.places))) (sym ek) (places_grow grown (listed d.places) d.places_lie);
+      goal_kept = subst (λ (ks : List ℕ). T (goal_sound ks (listed d.words) d.goal)) (sym ek) (goal_grows grown d.goal d.goal_kept);
+      pool_known = subst (λ (ks : List ℕ). T (every (of_kinds ks) (listed d.pool))) (sym ek) (every_weaker _ _ grown.more_kinds (listed d.pool) d.pool_known);
+      stock_known = subst (λ (ks : List ℕ). T (every (of_kinds ks) (listed d.stock))) (sym ek) (every_weaker _ _ grown.more_kinds (listed d.stock) d.stock_known);
+      a_chain_each = d.a_chain_each;
+      chains_start = d.chains_start;
+      chains_go_on = d.chains_go_on;
+    }
 
 pub returns : goal.returns
 unfolding draft_of

@@ -1,4 +1,4 @@
-use Rattle.std.proofs.Common.{◌≡◌, count_by, sym, ap, ◌∙◌, arith, take_all}
+use Rattle.std.proofs.Common.{count_by, sym, ap, ◌∙◌, arith, take_all}
 use Rattle.std.proofs.lemmas.List.Sums.{count_by_more_yes, count_by_more_no}
 use Rattle.model.specs.Proper.{of_family}
 use Rattle.world.proofs.draft.checks.count_of.Goals as goal

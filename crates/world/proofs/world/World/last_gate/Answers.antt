@@ -1,4 +1,4 @@
-use Rattle.std.proofs.Common.{ap, ◌∙◌, arith}
+use Rattle.std.proofs.Common.{◌∙◌, arith}
 use Rattle.std.proofs.lemmas.List.{get_or_past}
 use Rattle.world.specs.Listed.{listed}
 use Rattle.world.specs.Worlds.{draft_of, world_of, gate_rows}

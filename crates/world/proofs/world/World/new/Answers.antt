@@ -1,9 +1,8 @@
-use Rattle.std.proofs.Common.{◌≡◌, [], ◌∷◌, refl, ap, ◌∙◌}
+use Rattle.std.proofs.Common.{[], ◌∷◌, ap, ◌∙◌}
 use Rattle.model.specs.declared.rule_word.RuleWord.TheVariants.{Free}
-use Rattle.model.specs.Worlds.{World as Atlas, new_world}
-use Rattle.world.specs.declared.draft.Draft.{Draft}
-use Rattle.world.specs.Building.{nothing, complete, left, with_region, with_goal, region_refusal, goal_refusal}
-use Rattle.world.specs.Worlds.{draft_of, world_of}
+use Rattle.model.specs.Worlds.{World as Atlas}
+use Rattle.world.specs.Building.{complete, left, with_region, with_goal, region_refusal, goal_refusal}
+use Rattle.world.specs.Worlds.{world_of}
 use Rattle.world.proofs.Finished.{finished}
 use Rattle.world.proofs.world.World.new.Goals as goal
 
@@ -18,7 +17,7 @@ pub invariant_of-result : goal.invariant_of-result
 invariant_of-result c =
     let made = c.set_goal.ensures.draft ∙ ap goal_on (c.add_region.ensures.draft ∙ ap region_on c.in_ok-made.ensures) in
     let f = finished c.set_goal.new.self (ap complete made) in
-    (f.0, (f.1, tt))
+    record { some_region = f.0; goal_proper = f.1 }
 
 pub returns : goal.returns
 unfolding world_of

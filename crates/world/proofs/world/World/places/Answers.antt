@@ -1,4 +1,4 @@
-use Rattle.std.proofs.Common.{◌≡◌, ◌≤◌, List, map, length, sym, refl, ap, subst}
+use Rattle.std.proofs.Common.{◌≡◌, ◌≤◌, List, map, length, sym, refl, subst}
 use Rattle.world.specs.Listed.{listed}
 use Rattle.std.specs.List.{AllByRecursion as All}
 use Rattle.world.specs.declared.rows.Place.{Place}
