@@ -116,6 +116,20 @@ def in_code(text, names, mark):
     return "\n".join(out)
 
 
+ALIAS = re.compile(r"\bAllByRecursion as All\b")
+
+
+def own_word(text, mark):
+    """The library's `All` goes by index now: where ours went by recursion it is cited by the name that this has."""
+    if not ALIAS.search(text):
+        return text
+    out = []
+    for line in ALIAS.sub("AllByRecursion", text).split("\n"):
+        code, dash, note = line.partition(mark)
+        out.append(re.sub(r"(?<![\w'-])All(?![\w'-])", "AllByRecursion", code) + dash + note)
+    return "\n".join(out)
+
+
 def bare(text):
     return re.sub(r"«([A-Za-z_][A-Za-z0-9_]*)»", lambda m: m.group(0) if m.group(1) in KEPT else m.group(1), text)
 
@@ -129,6 +143,7 @@ def main():
         old = read(p)
         theirs = {w.split(" as ")[0].strip() for m in IMPORT.finditer(old) for w in m.group(2).split(",")}
         new = in_code(old, names - theirs, "//" if p.endswith(".rt") else "--")
+        new = own_word(new, "//" if p.endswith(".rt") else "--")
         if p.endswith(".rt"):
             new = bare(new)
         if new != old:

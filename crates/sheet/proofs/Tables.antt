@@ -8,14 +8,12 @@ use Rattle.sheet.specs.Tables.{placement_of}
 use Rattle.sheet.proofs.Records.{item_within, not_found, may_lie_facts, still_once, still_small, still_none}
 
 -- what a table keeps, of its records and its count
-abbrev pub Keeps : Placement → ℕ → Type 0
-Keeps records count =
-    (length records ≡ 256)
-    × ((count ≤ 256)
-    × (((k : ℕ) → count ≤ k → item_at records k ≡ None)
-    × (((j k : ℕ) → Shared records j k → j ≡ k)
-    × (((k i : ℕ) → item_at records k ≡ Some i → i < 256)
-    × Unit {0}))))
+pub record Keeps (records : Placement) (count : ℕ) : Type 0 where
+  pub room : length records ≡ 256
+  pub few : count ≤ 256
+  pub none_behind : (k : ℕ) → count ≤ k → item_at records k ≡ None
+  pub once : (j k : ℕ) → Shared records j k → j ≡ k
+  pub small : (k i : ℕ) → item_at records k ≡ Some i → i < 256
 
 none_there : (n k : ℕ) → item_at (replicate n None) k ≡ None
 none_there zero k = refl
@@ -28,7 +26,13 @@ nothing_lies n k i e = let e' = none_there n k in let z : ◌≡◌ {A = ℕ} 0 
 pub none_keep : (records : Placement) (count : ℕ) → records ≡ replicate 256 None → count ≤ 256 → Keeps records count
 none_keep records count e few =
     subst (λ (r : Placement). Keeps r count) (sym e)
-    (length-replicate {A = Option ℕ} 256 None, (few, (λ k h. none_there 256 k, (λ j k x. absurd (nothing_lies 256 j x.0 x.1), (λ k i x. absurd (nothing_lies 256 k i x), tt)))))
+    record {
+      room = length-replicate {A = Option ℕ} 256 None;
+      few = few;
+      none_behind = λ k h. none_there 256 k;
+      once = λ j k x. absurd (nothing_lies 256 j x.0 x.1);
+      small = λ k i x. absurd (nothing_lies 256 k i x);
+    }
 
 -- no item at each of as many places
 pub none_everywhere : {X : Type 0} (xs : List X) (n : ℕ) → n ≡ length xs → ◌≡◌ {A = Placement} (replicate n None) (map (λ x. None) xs)
@@ -55,19 +59,10 @@ module _ (t : PlaceTable) where
 
   -- another record at a place among the first m, with an item that lies nowhere yet
   pub change_keeps : (n : ℕ) (o : Option ℕ) (m : ℕ) → n < m → t.count ≤ m → m ≤ 256 → may_lie (placement_of t) o ≡ true → Keeps (set t.records n o) m
-  change_keeps n o m here more few fresh = (
-    length-set t.records n o ∙ t.room,
-    (
-      few,
-      (
-        still_none t.records n o t.count m more here t.none_behind,
-        (
-          still_once t.records n o t.once (λ i k e x. not_found (placement_of t) i k (may_lie_facts (placement_of t) o i fresh e).1 (item_is k ∙ x)),
-          (
-            still_small t.records n o t.small (λ i e. (may_lie_facts (placement_of t) o i fresh e).0),
-            tt,
-          ),
-        ),
-      ),
-    ),
-  )
+  change_keeps n o m here more few fresh = record {
+    room = length-set t.records n o ∙ t.room;
+    few = few;
+    none_behind = still_none t.records n o t.count m more here t.none_behind;
+    once = still_once t.records n o t.once (λ i k e x. not_found (placement_of t) i k (may_lie_facts (placement_of t) o i fresh e).1 (item_is k ∙ x));
+    small = still_small t.records n o t.small (λ i e. (may_lie_facts (placement_of t) o i fresh e).0);
+  }

@@ -26,7 +26,7 @@ returns-then-count-eq0 g c =
     let begins = attempt_begins m w s (state c.attempts.source) (placement_of c.args.places.now) (placement_of c.attempts.places) (left_in c.unset_items-left.result) (ap placement_of before.1) c.unset_items-left.ensures in
     record {
       filled = sym before.2
-          ∙ attempt_fills m w s (placement_of c.args.places.now) c.args.attempts c.attempts.failed (state c.attempts.source) c.attempts.new.item c.attempts-test.true (placement_of c.items.places) (state c.items.source)
+          ∙ attempt_fills m w s (placement_of c.args.places.now) c.args.attempts c.attempts.failed (state c.attempts.source) c.attempts.last.item c.attempts-test.true (placement_of c.items.places) (state c.items.source)
           (begins ∙ sym inv.2 ∙ all_set m w s (state c.items.source) (placement_of c.items.places) left none);
       loan = on_loan c.args.marks.now c.attempts.marks c.items.marks before.0 inv.0;
     }
@@ -82,5 +82,5 @@ attempts-preserved g c =
     let ends = item_ends m w s x p left some x' p' left' item c.in-Err.ensures.step in (
       on_loan c.args.marks.now c.attempts.marks c.set_one.new.marks before.0 (on_loan c.attempts.marks c.items.marks c.set_one.new.marks inv.0 c.set_one.ensures.loan),
       refl,
-      attempt_fails m w s start c.args.attempts c.attempts.failed x₀ c.attempts.new.item c.attempts-test.true item x' (begins ∙ sym inv.2 ∙ ends) ∙ before.2,
+      attempt_fails m w s start c.args.attempts c.attempts.failed x₀ c.attempts.last.item c.attempts-test.true item x' (begins ∙ sym inv.2 ∙ ends) ∙ before.2,
     )

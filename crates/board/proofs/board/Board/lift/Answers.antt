@@ -19,19 +19,12 @@ returns-then-is_set g c = search rules
 pub invariant_of-self : goal.invariant_of-self
 unfolding board_of
 invariant_of-self g c =
-    let p = placement_of c.args.self.now.layout.table in (
-      tt,
-      (
-        c.args.self.now.fits,
-        (
-          (λ i e. let same : c.args.item ≡ i = cc in omega (arith, c.if-item-pool.false, ap length c.pool.ensures.codes)),
-          (
-            (λ i e. let same : c.args.item ≡ i = cc in subst (λ (n : ℕ). is_set p n ≡ false) same (sym c.if-is_set.ensures)),
-            tt,
-          ),
-        ),
-      ),
-    )
+    let p = placement_of c.args.self.now.layout.table in
+    record {
+      fits = c.args.self.now.fits;
+      hand_known = λ i e. let same : c.args.item ≡ i = cc in omega (arith, c.if-item-pool.false, ap length c.pool.ensures.codes);
+      hand_unset = λ i e. let same : c.args.item ≡ i = cc in subst (λ (n : ℕ). is_set p n ≡ false) same (sym c.if-is_set.ensures);
+    }
 
 pub returns : goal.returns
 unfolding board_of atlas_of

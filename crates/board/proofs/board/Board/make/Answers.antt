@@ -28,7 +28,11 @@ returns-then-not-can_meet_goal g c =
 
 pub invariant_of-result : goal.invariant_of-result
 invariant_of-result g c =
-    (blank_size (world_of c.args.world.now) _ c.for_world-table.ensures, ((λ i e. absurd (never i e)), ((λ i e. absurd (never i e)), tt)))
+    record {
+      fits = blank_size (world_of c.args.world.now) _ c.for_world-table.ensures;
+      hand_known = λ i e. absurd (never i e);
+      hand_unset = λ i e. absurd (never i e);
+    }
 
 pub returns : goal.returns
 unfolding board_of atlas_of

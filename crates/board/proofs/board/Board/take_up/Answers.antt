@@ -10,7 +10,7 @@ pub invariant_of-self : goal.invariant_of-self
 invariant_of-self g c =
     let b = c.args.self.now in
     let same = kept (placement_of b.layout.table) _ (is_ok c.take_up.result) c.args.place c.take_up.ensures.placement in
-    (same.0 ∙ b.fits, (b.hand_known, ((λ i e. same.1 i (b.hand_unset i e)), tt)))
+    record { fits = same.0 ∙ b.fits; hand_known = b.hand_known; hand_unset = λ i e. same.1 i (b.hand_unset i e) }
 
 pub returns-in-Ok : goal.returns-in-Ok
 unfolding board_of atlas_of

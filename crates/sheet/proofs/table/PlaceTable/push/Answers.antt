@@ -11,7 +11,8 @@ pub invariant_of-self : goal.invariant_of-self
 invariant_of-self c =
     let t = c.args.self.now in
     let counted = count_is t in
-    change_keeps t t.count c.args.last _ (omega arith) (omega arith) (omega arith) c.requires.fresh
+    let k = change_keeps t t.count c.args.last _ (omega arith) (omega arith) (omega arith) c.requires.fresh in
+    record { room = k.room; few = k.few; none_behind = k.none_behind; once = k.once; small = k.small }
 
 pub returns : goal.returns
 unfolding placement_of

@@ -14,7 +14,8 @@ pub invariant_of-self : goal.invariant_of-self
 invariant_of-self c =
     let t = c.args.self.now in
     let counted = count_is t in
-    change_keeps t c.args.place c.args.change t.count (omega arith) (omega arith) t.few c.requires.fresh
+    let k = change_keeps t c.args.place c.args.change t.count (omega arith) (omega arith) t.few c.requires.fresh in
+    record { room = k.room; few = k.few; none_behind = k.none_behind; once = k.once; small = k.small }
 
 pub returns : goal.returns
 unfolding placement_of

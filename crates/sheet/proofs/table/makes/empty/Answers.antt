@@ -5,7 +5,9 @@ use Rattle.sheet.proofs.Tables.{none_keep}
 use Rattle.sheet.proofs.table.makes.empty.Goals as goal
 
 pub invariant_of-result : goal.invariant_of-result
-invariant_of-result c = none_keep c.none.result c.args.count c.none.ensures c.requires
+invariant_of-result c =
+    let k = none_keep c.none.result c.args.count c.none.ensures c.requires in
+    record { room = k.room; few = k.few; none_behind = k.none_behind; once = k.once; small = k.small }
 
 pub returns : goal.returns
 unfolding placement_of
