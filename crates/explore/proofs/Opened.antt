@@ -1,6 +1,6 @@
 -- One place more that is looked at.
 use Rattle.std.proofs.Common.{◌≡◌, ℕ, ◌+◌, ◌<◌, ◌≤◌, Bool, true, false, not, ◌&&◌, T, List, map, length, get_or, set, sym, refl, ap, ◌∙◌, subst, arith, length-set, below_more}
-use Rattle.std.specs.List.{AllByRecursion as All}
+use Rattle.std.specs.List.{AllByRecursion}
 use Rattle.std.proofs.lemmas.Bool.{and_parts, not-true}
 use Rattle.std.proofs.ByRecursion.{All-get_or}
 use Rattle.inventory.specs.Meaning.{Meaning, held}
@@ -50,7 +50,7 @@ module _ (world : World) (rows : List Place) (same : map (spot world) rows ≡ (
         e ∙ ap (λ x. not x && (at (regions marks) (row_place world rows k).region && reads (held m v) (row_place world rows k).rule)) (sym (at_places_in (world_of world) marks k is_place))
         ∙ ap (λ x. not (at (places_in (world_of world) marks) k) && (at x (row_place world rows k).region && reads (held m v) (row_place world rows k).rule)) is
 
-    pub read_open : All (KnownPlace world) rows → regions_in (world_of world) marks ≡ reached m (world_of world) v → b ≡ (not (at (places_in (world_of world) marks) k) && at (opens m (world_of world) v) k)
+    pub read_open : AllByRecursion (KnownPlace world) rows → regions_in (world_of world) marks ≡ reached m (world_of world) v → b ≡ (not (at (places_in (world_of world) marks) k) && at (opens m (world_of world) v) k)
     unfolding spot
     read_open known reached =
         read_marks (regions marks) refl

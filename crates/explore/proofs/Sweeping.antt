@@ -1,7 +1,7 @@
 -- Gates crossed one after the other, and the search that they make up.
 use Rattle.std.proofs.Common.{◌≡◌, ℕ, zero, suc, ◌<◌, Bool, true, false, cond, not, T, eqb, List, [], ◌∷◌, ◌++◌, length, get_or, take, set, replicate, sym, refl, ◌∙◌, subst, inl, inr, arith, eqb→eq, length-set}
 use lib.Dec.{eqb_refl}
-use Rattle.std.specs.List.{AllByRecursion as All}
+use Rattle.std.specs.List.{AllByRecursion}
 use Rattle.std.proofs.lemmas.Bool.{and_parts, not-true, cases_eq}
 use Rattle.std.proofs.lemmas.List.{get_or-take, length-take-le}
 use Rattle.std.proofs.ByRecursion.{All-get_or}
@@ -100,15 +100,15 @@ module _ (m : Meaning) (w : Atlas) (v : m.Value) where
           ways false e = (widens_none s h, stays h s g e)
 
   -- the region whose gates are crossed waits no more
-  no_longer : (x : ℕ) (h : List ℕ) (s : List Bool) (gates : List Gateway) → All (Settled m v (x ∷ h) s) gates → All (λ (g : Gateway). g.near ≡ x → Settled m v h s g) gates → All (Settled m v h s) gates
+  no_longer : (x : ℕ) (h : List ℕ) (s : List Bool) (gates : List Gateway) → AllByRecursion (Settled m v (x ∷ h) s) gates → AllByRecursion (λ (g : Gateway). g.near ≡ x → Settled m v h s g) gates → AllByRecursion (Settled m v h s) gates
   no_longer x h s [] a b = tt
   no_longer x h s (g ∷ gates) a b = (elim (cases_eq g.near x) [ inl e ↦ b.0 e | inr n ↦ elsewhere x h s g n a.0 ], no_longer x h s gates a.1 b.1)
 
-  widened : (x : ℕ) (s : List Bool) (h : List ℕ) (s' : List Bool) (h' : List ℕ) → Widens m w v s h s' h' → (gates : List Gateway) → All (Settled m v (x ∷ h) s) gates → All (Settled m v (x ∷ h') s') gates
+  widened : (x : ℕ) (s : List Bool) (h : List ℕ) (s' : List Bool) (h' : List ℕ) → Widens m w v s h s' h' → (gates : List Gateway) → AllByRecursion (Settled m v (x ∷ h) s) gates → AllByRecursion (Settled m v (x ∷ h') s') gates
   widened x s h s' h' a [] b = tt
   widened x s h s' h' a (g ∷ gates) b = (a.settled (x ∷ []) g b.0, widened x s h s' h' a gates b.1)
 
-  pub underway_start : (s s₁ : List Bool) (h₁ : List ℕ) → Widens m w v s [] s₁ h₁ → All (Settled m v h₁ s₁) w.gates → Underway m w v s₁ s₁ h₁
+  pub underway_start : (s s₁ : List Bool) (h₁ : List ℕ) → Widens m w v s [] s₁ h₁ → AllByRecursion (Settled m v h₁ s₁) w.gates → Underway m w v s₁ s₁ h₁
   underway_start s s₁ h₁ a b = record { keeps = λ k t. t; sound = λ t c i. i; space = (let new = a.waits in omega arith); settled = b }
 
   pub underway_turn : (s₀ s : List Bool) (x : ℕ) (h : List ℕ) (s' : List Bool) (h' : List ℕ) → Underway m w v s₀ s (x ∷ h) → Widens m w v s h s' h' → Left m w v x h' s' → Underway m w v s₀ s' h'
@@ -123,7 +123,7 @@ module _ (m : Meaning) (w : Atlas) (v : m.Value) where
       }
 
   -- nothing waits any more
-  closed : (s : List Bool) (gates : List Gateway) → All (Settled m v [] s) gates → All (λ (g : Gateway). In s g.near → T (reads (held m v) g.rule) → In s g.far) gates
+  closed : (s : List Bool) (gates : List Gateway) → AllByRecursion (Settled m v [] s) gates → AllByRecursion (λ (g : Gateway). In s g.near → T (reads (held m v) g.rule) → In s g.far) gates
   closed s [] a = tt
   closed s (g ∷ gates) a = (λ near met. elim (or_cases (at s g.far) _ (a.0 near met)) [ inl t ↦ t | inr f ↦ absurd f ], closed s gates a.1)
 
@@ -131,7 +131,7 @@ module _ (m : Meaning) (w : Atlas) (v : m.Value) where
   spread s₀ s₁ s h₁ h a u none = record {
     keeps = λ k t. u.keeps k (a.keeps k t);
     sound = λ t c o. u.sound t c (a.sound t c o);
-    closed = closed s w.gates (subst (λ l. All (Settled m v l s) w.gates) none u.settled);
+    closed = closed s w.gates (subst (λ l. AllByRecursion (Settled m v l s) w.gates) none u.settled);
   }
 
 -- the first marks of a row
@@ -145,9 +145,9 @@ take_in (suc n) (b ∷ s) zero t = t
 take_in (suc n) (b ∷ s) (suc k) t = take_in n s k t
 
 module _ (m : Meaning) (w : Atlas) (v : m.Value) where
-  closed_take : (s : List Bool) (gates : List Gateway) → All (ProperGate w) gates
-      → All (λ (g : Gateway). In s g.near → T (reads (held m v) g.rule) → In s g.far) gates
-      → All (λ (g : Gateway). In (take w.regions s) g.near → T (reads (held m v) g.rule) → In (take w.regions s) g.far) gates
+  closed_take : (s : List Bool) (gates : List Gateway) → AllByRecursion (ProperGate w) gates
+      → AllByRecursion (λ (g : Gateway). In s g.near → T (reads (held m v) g.rule) → In s g.far) gates
+      → AllByRecursion (λ (g : Gateway). In (take w.regions s) g.near → T (reads (held m v) g.rule) → In (take w.regions s) g.far) gates
   closed_take s [] a b = tt
   closed_take s (g ∷ gates) a b = (
     λ near met. in_take w.regions s g.far a.0.far_known (b.0 (take_in w.regions s g.near near) met),

@@ -1,6 +1,6 @@
 -- The regions that are marked, and those of them that wait for their gates to be crossed.
 use Rattle.std.specs.Prelude.{◌≡◌, ℕ, ◌+◌, ◌≤◌, Bool, not, ◌&&◌, ◌||◌, T, List, ◌++◌, length, nat_eq}
-use Rattle.std.specs.List.{AllByRecursion as All}
+use Rattle.std.specs.List.{AllByRecursion}
 use Rattle.inventory.specs.Meaning.{Meaning, held}
 use Rattle.model.specs.declared.rule_word.RuleWord.{RuleWord}
 use Rattle.model.specs.Marks.{at, In, Sub, count, any}
@@ -18,7 +18,7 @@ Settled m v waiting s g = In s g.near → T (reads (held m v) g.rule) → T (at 
 
 -- the gates that leave a region are settled
 abbrev pub Left : (m : Meaning) (w : Atlas) → m.Value → ℕ → List ℕ → List Bool → Type 0
-Left m w v region waiting s = All (λ (g : Gateway). g.near ≡ region → Settled m v waiting s g) w.gates
+Left m w v region waiting s = AllByRecursion (λ (g : Gateway). g.near ≡ region → Settled m v waiting s g) w.gates
 
 -- from marked regions s, of which h wait, on to s' and h': what is marked new is in every closed set and waits, and no gate is unsettled
 pub record Widens (m : Meaning) (w : Atlas) (v : m.Value) (s : List Bool) (h : List ℕ) (s' : List Bool) (h' : List ℕ) : Type 0 where
@@ -34,7 +34,7 @@ pub record Underway (m : Meaning) (w : Atlas) (v : m.Value) (s s' : List Bool) (
   pub keeps : Sub s s'
   pub sound : (t : List Bool) → Closed m w v t → Sub s t → Sub s' t
   pub space : length h ≤ count s'
-  pub settled : All (Settled m v h s') w.gates
+  pub settled : AllByRecursion (Settled m v h s') w.gates
 
 -- s' is the least closed set that has s
 pub record Spread (m : Meaning) (w : Atlas) (v : m.Value) (s s' : List Bool) : Type 0 where

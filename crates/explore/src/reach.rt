@@ -1,6 +1,6 @@
 // Which regions are reached with a value.
 ghost use Rattle.std.specs.Prelude.{◌≡◌, ◌≤◌, true, [], ◌∷◌, length, if◌then◌else◌, slice_set};
-ghost use Rattle.std.specs.List.{AllByRecursion as All};
+ghost use Rattle.std.specs.List.{AllByRecursion};
 ghost use Rattle.inventory.specs.Meaning.{held};
 ghost use Rattle.scratch.specs.Held.{held as stacked, room};
 ghost use Rattle.scratch.specs.Marks.{regions, places, SameLoan};
@@ -78,7 +78,7 @@ fn sweep_all<I: Inventory>(world: &World, value: &I, marks: &mut Marks, waiting:
     requires room { room waiting.old ≡ 64 }
     requires empty { stacked waiting.old ≡ [] }
     ensures widens { Widens I.Inventory.meaning (world_of world.now) (I.Inventory.value value.now) (regions marks.old) [] (regions marks.new) (stacked waiting.new) }
-    ensures settled { All (Settled I.Inventory.meaning (I.Inventory.value value.now) (stacked waiting.new) (regions marks.new)) (world_of world.now).gates }
+    ensures settled { AllByRecursion (Settled I.Inventory.meaning (I.Inventory.value value.now) (stacked waiting.new) (regions marks.new)) (world_of world.now).gates }
     ensures room { room waiting.new ≡ 64 }
     ensures places { places marks.new ≡ places marks.old }
     ensures loan { SameLoan marks.old marks.new }

@@ -1,6 +1,6 @@
 -- The items that are left lie nowhere, at the start of an attempt and after each item that is set.
 use Rattle.std.proofs.Common.{◌≡◌, ℕ, zero, suc, ◌+◌, ◌<◌, ◌≤◌, true, false, not, eqb, ltb, List, [], ◌∷◌, length, get_or, set, Some, None, filter, Option, sym, refl, ap, ◌∙◌, inl, inr, le_of_suc-le-suc, not-suc-le-zero, arith}
-use Rattle.std.specs.List.{remove, range_with_len, AllByRecursion as All}
+use Rattle.std.specs.List.{remove, range_with_len, AllByRecursion}
 use Rattle.std.proofs.lemmas.List.{set_past}
 use Rattle.std.proofs.ByRecursion.{All-get_or, all_kept_by}
 use Rattle.std.proofs.lemmas.Bool.{cases_lt, not-true, ne_eqb, lt-ltb, le-ltb, or_parts, or_from, cond-true, cond-false, cond_both}
@@ -20,7 +20,7 @@ fresh_item p [] j h fresh = absurd (not-suc-le-zero h)
 fresh_item p (i ∷ left) zero h fresh = (fresh.0, fresh.1)
 fresh_item p (i ∷ left) (suc j) h fresh = fresh_item p left j (le_of_suc-le-suc h) fresh.3
 
-all_removed : (P : ℕ → Type 0) (xs : List ℕ) (j : ℕ) → All P xs → All P (remove xs j)
+all_removed : (P : ℕ → Type 0) (xs : List ℕ) (j : ℕ) → AllByRecursion P xs → AllByRecursion P (remove xs j)
 all_removed P [] zero all = all
 all_removed P [] (suc j) all = all
 all_removed P (x ∷ xs) zero all = all.1
@@ -36,12 +36,12 @@ unset_kept (o ∷ p) (suc k) i item apart none =
     let parts = or_parts (is_item i o) (is_set p i) none in
     or_from (is_item i o) (is_set (set p k (Some item)) i) parts.0 (unset_kept p k i item apart parts.1)
 
-fresh_kept : (p : Placement) (k item : ℕ) (left : List ℕ) → All (λ i. item ≡ i → ⊥) left → Fresh p left → Fresh (set p k (Some item)) left
+fresh_kept : (p : Placement) (k item : ℕ) (left : List ℕ) → AllByRecursion (λ i. item ≡ i → ⊥) left → Fresh p left → Fresh (set p k (Some item)) left
 unfolding Fresh
 fresh_kept p k item [] apart fresh = tt
 fresh_kept p k item (i ∷ left) apart fresh = (fresh.0, unset_kept p k i item apart.0 fresh.1, fresh.2, fresh_kept p k item left apart.1 fresh.3)
 
-fresh_removed : (p : Placement) (left : List ℕ) (j : ℕ) → j < length left → Fresh p left → Fresh p (remove left j) × All (λ i. get_or left j 0 ≡ i → ⊥) (remove left j)
+fresh_removed : (p : Placement) (left : List ℕ) (j : ℕ) → j < length left → Fresh p left → Fresh p (remove left j) × AllByRecursion (λ i. get_or left j 0 ≡ i → ⊥) (remove left j)
 unfolding Fresh
 fresh_removed p [] j h fresh = absurd (not-suc-le-zero h)
 fresh_removed p (i ∷ left) zero h fresh = (fresh.3, fresh.2)
@@ -56,7 +56,7 @@ pub fresh_set : (p : Placement) (left : List ℕ) (j k : ℕ) → j < length lef
 fresh_set p left j k h fresh =
     let rest = fresh_removed p left j h fresh in fresh_kept p k (get_or left j 0) (remove left j) rest.1 rest.0
 
-later : (a b n : ℕ) → a < b → All (λ k. a ≡ k → ⊥) (range_with_len b n)
+later : (a b n : ℕ) → a < b → AllByRecursion (λ k. a ≡ k → ⊥) (range_with_len b n)
 later a b zero h = tt
 later a b (suc n) h = (λ e. omega arith, later a (b + 1) n (omega arith))
 

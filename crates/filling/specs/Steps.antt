@@ -1,6 +1,6 @@
 -- One item of an attempt: which is drawn, and where it is set.
 use Rattle.std.specs.Prelude.{◌≡◌, ℕ, ◌<◌, Bool, false, ◌&&◌, List, [], ◌∷◌, length, set, Some, filter, ◌≢◌, slice_index, slice_set}
-use Rattle.std.specs.List.{remove, range_with_len, AllByRecursion as All}
+use Rattle.std.specs.List.{remove, range_with_len, AllByRecursion}
 use Rattle.inventory.specs.Meaning.{Meaning}
 use Rattle.draw.specs.Source.{Source}
 use Rattle.model.specs.Marks.{at}
@@ -20,7 +20,7 @@ empty_marked w p g = filter (fits_at p g) (range_with_len 0 (length w.places))
 -- the items are apart from each other, none of them lies anywhere, and each is one that a pool may have
 unfoldable pub Fresh : Placement → List ℕ → Type 0
 Fresh p [] = Unit {0}
-Fresh p (i ∷ left) = (i < 256) × (is_set p i ≡ false) × All (λ j. i ≢ j) left × Fresh p left
+Fresh p (i ∷ left) = (i < 256) × (is_set p i ≡ false) × AllByRecursion (λ j. i ≢ j) left × Fresh p left
 
 module _ (s : Source) (x : s.State) (left : List ℕ) where
   -- the item that is drawn

@@ -1,6 +1,6 @@
 -- What the test of a world says, both ways.
 use Rattle.std.proofs.Common.{◌≡◌, ℕ, ◌+◌, ◌*◌, ◌/◌, ◌%◌, ◌≤◌, Bool, ◌&&◌, T, eqb, ltb, leb, List, [], ◌∷◌, length, sym, subst, arith, le→leb, eqb→eq, ltb→lt, lt→ltb, leb→le}
-use Rattle.std.specs.List.{AllByRecursion as All}
+use Rattle.std.specs.List.{AllByRecursion}
 use Rattle.inventory.specs.declared.family.Family.{Family}
 use Rattle.inventory.specs.declared.family.Family.TheVariants.{Key, Count, Tier}
 use Rattle.inventory.specs.Families.{code_of}
@@ -18,11 +18,11 @@ infixr 20 ◌also◌
 a also b = (a, b)
 
 -- a test that every element passes is a fact of every element
-pub every_all : {A : Type 0} (f : A → Bool) (P : A → Type 0) → ((x : A) → T (f x) → P x) → (xs : List A) → T (every f xs) → All P xs
+pub every_all : {A : Type 0} (f : A → Bool) (P : A → Type 0) → ((x : A) → T (f x) → P x) → (xs : List A) → T (every f xs) → AllByRecursion P xs
 every_all f P h [] t = tt
 every_all f P h (x ∷ xs) t = let b = and_both (f x) (every f xs) t in (h x b.0, every_all f P h xs b.1)
 
-pub all_every : {A : Type 0} (f : A → Bool) (P : A → Type 0) → ((x : A) → P x → T (f x)) → (xs : List A) → All P xs → T (every f xs)
+pub all_every : {A : Type 0} (f : A → Bool) (P : A → Type 0) → ((x : A) → P x → T (f x)) → (xs : List A) → AllByRecursion P xs → T (every f xs)
 all_every f P h [] a = tt
 all_every f P h (x ∷ xs) a = and_from (f x) (every f xs) (h x a.0) (all_every f P h xs a.1)
 

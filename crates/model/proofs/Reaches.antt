@@ -1,7 +1,7 @@
 -- The reached regions are the least set with region 0 that is closed under the gates that are passed, and how long each table is.
 use Rattle.std.proofs.Common.{◌≡◌, ℕ, ◌<◌, Bool, false, ◌&&◌, T, eqb, List, [], ◌∷◌, length, get_or, sym, ap, ◌∙◌, subst, inl, inr, eqb→eq}
 use lib.Dec.{eqb_refl}
-use Rattle.std.specs.List.{AllByRecursion as All}
+use Rattle.std.specs.List.{AllByRecursion}
 use Rattle.std.proofs.lemmas.List.{get_or-map}
 use Rattle.inventory.specs.Meaning.{Meaning, Lawful, held}
 use Rattle.model.specs.Marks.{at, In, Sub, tabulate, any}
@@ -12,7 +12,7 @@ use Rattle.model.specs.Laws.{Closed, ReachLaw, TableLaws}
 use Rattle.model.proofs.Sets.{and_both, and_from, or_left, or_right, or_cases, in_tabulate, tabulate_in, length_tabulate, in_length, iterate_least, iterate_start, iterate_settles, same_set}
 use Rattle.model.proofs.Grows.{widened_grow, length_opens, length_round, length_gathered, length_finishable}
 
-any_use : {A : Type 0} (f : A → Bool) (P : A → Type 0) (Q : Type 0) → ((x : A) → P x → T (f x) → Q) → (xs : List A) → All P xs → T (any f xs) → Q
+any_use : {A : Type 0} (f : A → Bool) (P : A → Type 0) (Q : Type 0) → ((x : A) → P x → T (f x) → Q) → (xs : List A) → AllByRecursion P xs → T (any f xs) → Q
 any_use f P Q h [] a t = absurd t
 any_use f P Q h (x ∷ xs) a t = elim (or_cases (f x) (any f xs) t) [ inl y ↦ h x a.0 y | inr z ↦ any_use f P Q h xs a.1 z ]
 
@@ -30,8 +30,8 @@ module _ (m : Meaning) (l : Lawful m) (w : World) (v : m.Value) where
   settled = iterate_settles (widened m w v) (widened_grow m l w v v (l.reflexive v)) (tabulate w.regions (λ r. eqb r 0)) w.regions (length_tabulate w.regions _) (λ s. length_tabulate w.regions _) (start_up _ (length_tabulate w.regions _))
 
   crosses_from : (s : List Bool) (gates : List Gate) → ((r : ℕ) → T (any (crossed s r) gates) → T (any (crossed s r) w.gates))
-      → All (ProperGate w) gates
-      → All (λ (g : Gate). In s g.near → T (reads (held m v) g.rule) → In (widened m w v s) g.far) gates
+      → AllByRecursion (ProperGate w) gates
+      → AllByRecursion (λ (g : Gate). In s g.near → T (reads (held m v) g.rule) → In (widened m w v s) g.far) gates
   unfolding widened
   crosses_from s [] k a = tt
   crosses_from s (g ∷ gates) k a = (
@@ -63,7 +63,7 @@ module _ (m : Meaning) (l : Lawful m) (w : World) (v : m.Value) where
   unfolding reached widened
   reach_law proper = record {
     starts = iterate_start (widened m w v) (widened_grow m l w v v (l.reflexive v)) (tabulate w.regions (λ r. eqb r 0)) (start_up _ (length_tabulate w.regions _)) w.regions 0 (in_tabulate w.regions (λ r. eqb r 0) 0 proper.some_region tt);
-    closed = subst (λ s. All (λ (g : Gate). In (reached m w v) g.near → T (reads (held m v) g.rule) → In s g.far) w.gates) settled (crosses_from (reached m w v) w.gates (λ r t. t) proper.gates_lead);
+    closed = subst (λ s. AllByRecursion (λ (g : Gate). In (reached m w v) g.near → T (reads (held m v) g.rule) → In s g.far) w.gates) settled (crosses_from (reached m w v) w.gates (λ r t. t) proper.gates_lead);
     least = least_reached;
     only = λ s e z c k. same_set s (reached m w v) (e ∙ sym length_reached) k (least_reached s z c);
   }

@@ -1,6 +1,6 @@
 -- What is shown of worlds, rules, gathering and spheres, for every lawful inventory.
 use Rattle.std.specs.Prelude.{◌≡◌, ℕ, suc, ◌<◌, ◌≤◌, Bool, ◌&&◌, ◌||◌, T, ◌↔◌, List, [], ◌∷◌, ◌++◌, length, Some, None, slice_index_or}
-use Rattle.std.specs.List.{AllByRecursion as All}
+use Rattle.std.specs.List.{AllByRecursion}
 use Rattle.inventory.specs.declared.family.Family.{Family}
 use Rattle.inventory.specs.Meaning.{Meaning, held, with_codes}
 use Rattle.inventory.specs.Families.{code_of}
@@ -33,7 +33,7 @@ pub record ProperLaws : Type 0 where
 
 -- a set of regions that no gate leaves which the value passes
 abbrev pub Closed : (m : Meaning) (w : World) → m.Value → List Bool → Type 0
-Closed m w v s = All (λ (g : Gate). In s g.near → T (reads (held m v) g.rule) → In s g.far) w.gates
+Closed m w v s = AllByRecursion (λ (g : Gate). In s g.near → T (reads (held m v) g.rule) → In s g.far) w.gates
 
 -- The reached regions are the least set that has region 0 and is closed.
 pub record ReachLaw (m : Meaning) (w : World) (v : m.Value) : Type 0 where

@@ -1,6 +1,6 @@
 -- The limits that a world keeps.
 use Rattle.std.specs.Prelude.{ℕ, ◌+◌, ◌%◌, ◌<◌, ◌≤◌, Bool, true, ◌&&◌, T, List, [], ◌∷◌, length, sum_by, count_by, ◌==◌, nat_eq, nat_le, nat_lt}
-use Rattle.std.specs.List.{AllByRecursion as All}
+use Rattle.std.specs.List.{AllByRecursion}
 use Rattle.inventory.specs.declared.family.Family.{Family}
 use Rattle.inventory.specs.declared.family.Family.TheVariants.{Key, Count, Tier}
 use Rattle.model.specs.declared.rule_word.RuleWord.{RuleWord}
@@ -75,7 +75,7 @@ proper w = every (λ test. test) (limits w)
 pub record ProperRule (kinds : List ℕ) (rule : List RuleWord) : Type 0 where
   pub short : length rule ≤ 32
   pub well_formed : T (formed rule)
-  pub names_known : All (λ word. T (names_kinds kinds word)) rule
+  pub names_known : AllByRecursion (λ word. T (names_kinds kinds word)) rule
 
 -- what a proper gate keeps
 pub record ProperGate (w : World) (g : Gate) : Type 0 where
@@ -99,8 +99,8 @@ pub record Proper (w : World) : Type 0 where
   pub few_kinds : length w.kinds ≤ 64
   pub few_of_family : (family : Family) → kinds_of w family ≤ 32
   pub few_words : words_in w ≤ 4096
-  pub gates_lead : All (ProperGate w) w.gates
-  pub places_lie : All (ProperPlace w) w.places
+  pub gates_lead : AllByRecursion (ProperGate w) w.gates
+  pub places_lie : AllByRecursion (ProperPlace w) w.places
   pub goal_proper : ProperRule w.kinds w.goal
-  pub pool_known : All (λ code. T (of_kinds w.kinds code)) w.pool
-  pub stock_known : All (λ code. T (of_kinds w.kinds code)) w.stock
+  pub pool_known : AllByRecursion (λ code. T (of_kinds w.kinds code)) w.pool
+  pub stock_known : AllByRecursion (λ code. T (of_kinds w.kinds code)) w.stock

@@ -1,6 +1,6 @@
 -- Accepted fills leave whole placements that keep what was set, and each such placement under some tape: whichever item is drawn, its place is among the candidates.
 use Rattle.std.proofs.Common.{◌≡◌, ℕ, zero, suc, ◌+◌, ◌<◌, ◌≤◌, Bool, cond, not, ◌||◌, T, eqb, ltb, ◌⊎◌, ◌↔◌, List, [], ◌∷◌, ◌++◌, length, get_or, set, Some, None, Ok, Err, filter, Option, Result, sym, refl, ap, ◌∙◌, subst, inl, inr, zero-le, mod-eq_of_lt, arith}
-use Rattle.std.specs.List.{remove, range_with_len, AllByRecursion as All}
+use Rattle.std.specs.List.{remove, range_with_len, AllByRecursion}
 use Rattle.std.proofs.lemmas.List.{get_or-set_same, get_or-set_other}
 use Rattle.std.proofs.lemmas.Bool.{cases_eq, cond-false, ne_eqb}
 use Rattle.inventory.specs.Meaning.{Meaning, Lawful}
@@ -275,7 +275,7 @@ module _ (m : Meaning) (l : Lawful m) (w : World) where
               absurd ((t.held.list.free x (inl refl)).1 (there_set q k x (e ∙ ap Some same)))
 
     abbrev TapeTo : ℕ → Placement → List ℕ → Type 0
-    TapeTo n q items = (numbers : List ℕ) × (length numbers ≡ n + n) × All (λ x. x < 65536) numbers × (attempt m w tape n numbers q items ≡ complete goal [])
+    TapeTo n q items = (numbers : List ℕ) × (length numbers ≡ n + n) × AllByRecursion (λ x. x < 65536) numbers × (attempt m w tape n numbers q items ≡ complete goal [])
 
     tape_to : length w.places ≤ 256 → (n : ℕ) (q : Placement) (items : List ℕ) → length items ≡ n → Towards q items → TapeTo n q items
     tape_to few zero q [] e t = ([], refl, tt, ap (λ p. complete p []) (reached_goal q t))

@@ -1,6 +1,6 @@
 -- What is promised of every board and of every run, for every lawful inventory.
 use Rattle.std.specs.Prelude.{◌≡◌, ℕ, ◌+◌, ◌<◌, ◌≤◌, T, ◌↔◌, List, [], ◌∷◌, ◌++◌, length, replicate, Some, None, Ok, nat_eq}
-use Rattle.std.specs.List.{AllByRecursion as All}
+use Rattle.std.specs.List.{AllByRecursion}
 use Rattle.inventory.specs.Meaning.{Meaning}
 use Rattle.draw.specs.Source.{Source}
 use Rattle.draw.specs.Tapes.{tape}
@@ -32,7 +32,7 @@ BoardsStaySupported m = (w : World) (calls : List Call) → Sound m w (after m w
 
 -- numbers that make a tape: at most 512, of 16 bits each
 abbrev pub Tape : List ℕ → Type 0
-Tape numbers = (length numbers ≤ 512) × All (λ n. n < 65536) numbers
+Tape numbers = (length numbers ≤ 512) × AllByRecursion (λ n. n < 65536) numbers
 
 -- a fill of one attempt is accepted with these numbers, and leaves the placement
 pub record FilledFrom (m : Meaning) (w : World) (b : Board) (p : Placement) (numbers : List ℕ) : Type 0 where

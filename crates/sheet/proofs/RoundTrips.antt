@@ -1,7 +1,7 @@
 -- Loading what was written, and writing what was loaded.
 use Rattle.std.proofs.Common.{◌≡◌, ℕ, zero, suc, ◌+◌, ◌-◌, ◌*◌, ◌<◌, ◌≤◌, Bool, true, false, cond, T, eqb, List, [], ◌∷◌, ◌++◌, map, length, drop, Some, None, Ok, Err, Option, Result, sym, refl, ap, ◌∙◌, subst, ap₂, arith, length-drop}
 use lib.ListN.{length-map}
-use Rattle.std.specs.List.{flat_map, AllByRecursion as All}
+use Rattle.std.specs.List.{flat_map, AllByRecursion}
 use Rattle.std.proofs.lemmas.Nat.{div-add-mod', div-mul-add, mod-mul-add, div_below, mod_below}
 use Rattle.std.proofs.lemmas.Bool.{cond-false, ne_eqb, eqb-true, ltb-false}
 use Rattle.model.specs.Worlds.{World}
@@ -139,7 +139,7 @@ written_back w file p b ok =
     ∙ opened file ok.two b
 
 -- a file's numbers are bytes
-bytes_of : (ns : List ℕ) → All (λ n. n ≤ 256) ns → Bytes (flat_map two_bytes ns)
+bytes_of : (ns : List ℕ) → AllByRecursion (λ n. n ≤ 256) ns → Bytes (flat_map two_bytes ns)
 bytes_of [] h = tt
 bytes_of (n ∷ ns) h = (div_below n 256 256 (omega arith) (omega (arith, h.0)), (mod_below n 256 (omega arith), bytes_of ns h.1))
 
@@ -147,7 +147,7 @@ entry_small : (pool : ℕ) (o : Option ℕ) → pool ≤ 256 → ((i : ℕ) → 
 entry_small pool None few h = omega arith
 entry_small pool (Some i) few h = omega (arith, h i refl)
 
-entries_small : (pool : ℕ) (p : Placement) → pool ≤ 256 → ((k i : ℕ) → item_at p k ≡ Some i → i < pool) → All (λ n. n ≤ 256) (map entry p)
+entries_small : (pool : ℕ) (p : Placement) → pool ≤ 256 → ((k i : ℕ) → item_at p k ≡ Some i → i < pool) → AllByRecursion (λ n. n ≤ 256) (map entry p)
 entries_small pool [] few h = tt
 entries_small pool (o ∷ p) few h = (entry_small pool o few (h 0), entries_small pool p few (λ k. h (suc k)))
 

@@ -1,6 +1,6 @@
 -- What is shown of sheet files.
 use Rattle.std.specs.Prelude.{◌≡◌, ℕ, ◌+◌, ◌*◌, ◌<◌, T, List, length, Ok}
-use Rattle.std.specs.List.{AllByRecursion as All}
+use Rattle.std.specs.List.{AllByRecursion}
 use Rattle.model.specs.Worlds.{World}
 use Rattle.model.specs.Proper.{proper}
 use Rattle.model.specs.Placements.{Placement, Placed}
@@ -8,7 +8,7 @@ use Rattle.sheet.specs.Files.{file_of, loaded}
 
 -- every number of a row is a byte's
 abbrev pub Bytes : List ℕ → Type 0
-Bytes row = All (λ byte. byte < 256) row
+Bytes row = AllByRecursion (λ byte. byte < 256) row
 
 -- Loading and writing undo each other, and what is loaded is a placement of the world's items.
 pub record FileLaws : Type 0 where

@@ -1,6 +1,6 @@
 -- Words that borrow the text, and where they stand in it.
 use Rattle.std.specs.Prelude.{◌≡◌, ℕ, ◌-◌, ◌≤◌, List, map, length, take, drop}
-use Rattle.std.specs.List.{AllByRecursion as All}
+use Rattle.std.specs.List.{AllByRecursion}
 use Rattle.words.specs.declared.word.Word.{Word}
 use Rattle.words.specs.declared.word.Word.TheVariants.{Free, And, Or, Name, Amount, Other}
 use Rattle.words.specs.declared.word.Placed.{Placed}
@@ -31,7 +31,7 @@ word_bytes words = map (λ w. bytes w.word) words
 
 -- every word says what its bytes do
 abbrev pub Said : List Placed → Type 0
-Said words = All (λ w. says w.word ≡ class (bytes w.word)) words
+Said words = AllByRecursion (λ w. says w.word ≡ class (bytes w.word)) words
 
 -- a word stands where it says, in a line that begins at base
 pub record Stands (line : Bytes) (base : ℕ) (w : Placed) : Type 0 where
@@ -40,4 +40,4 @@ pub record Stands (line : Bytes) (base : ℕ) (w : Placed) : Type 0 where
 
 -- every word stands where it says, and says what its bytes do
 abbrev pub ReadAs : Bytes → ℕ → List Placed → Type 0
-ReadAs line base words = All (λ w. Stands line base w × (says w.word ≡ class (bytes w.word))) words
+ReadAs line base words = AllByRecursion (λ w. Stands line base w × (says w.word ≡ class (bytes w.word))) words

@@ -1,7 +1,7 @@
 -- What is known of a world's rows.
 use Rattle.std.proofs.Common.{ℕ, T, ltb, List, refl, leb→le}
 use Rattle.world.specs.Listed.{listed}
-use Rattle.std.specs.List.{AllByRecursion as All}
+use Rattle.std.specs.List.{AllByRecursion}
 use Rattle.model.specs.declared.rule_word.RuleWord.{RuleWord}
 use Rattle.model.specs.Rules.{formed}
 use Rattle.model.proofs.Sets.{and_both}
@@ -36,8 +36,8 @@ module _ (w : World) where
       let p = and_both (ltb q.region w.made.regions) _ t in
       record { region_known = leb→le _ _ p.0; rule_formed = sound_formed kinds table q.rule p.1; stands_for = refl }
 
-  pub known_gates : All (KnownGate w) (listed w.made.gates)
+  pub known_gates : AllByRecursion (KnownGate w) (listed w.made.gates)
   known_gates = every_all (gate_sound w.made.regions kinds table) (KnownGate w) known_gate (listed w.made.gates) w.made.gates_lead
 
-  pub known_places : All (KnownPlace w) (listed w.made.places)
+  pub known_places : AllByRecursion (KnownPlace w) (listed w.made.places)
   known_places = every_all (place_sound w.made.regions kinds table) (KnownPlace w) known_place (listed w.made.places) w.made.places_lie

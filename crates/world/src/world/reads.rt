@@ -1,6 +1,6 @@
 // Reading a world's tables.
 ghost use Rattle.std.specs.Prelude.{◌≡◌, ℕ, ◌<◌, ◌≤◌, T, map, length};
-ghost use Rattle.std.specs.List.{AllByRecursion as All};
+ghost use Rattle.std.specs.List.{AllByRecursion};
 ghost use Rattle.model.specs.Proper.{proper, words_in};
 ghost use Rattle.model.specs.Rules.{formed};
 ghost use Rattle.world.specs.Rows.{last_leaving};
@@ -33,7 +33,7 @@ impl World {
         ensures rows { result.now ≡ gate_rows self.now }
         ensures meaning { map (gateway self.now) result.now ≡ (world_of self.now).gates }
         ensures few { length result.now ≤ 256 }
-        ensures known { All (KnownGate self.now) result.now }
+        ensures known { AllByRecursion (KnownGate self.now) result.now }
         ensures chained { Chained result.now }
     {
         self.made.gates()
@@ -51,7 +51,7 @@ impl World {
     pub fn places(&self) -> &[Place]
         ensures meaning { map (spot self.now) result.now ≡ (world_of self.now).places }
         ensures few { length result.now ≤ 256 }
-        ensures known { All (KnownPlace self.now) result.now }
+        ensures known { AllByRecursion (KnownPlace self.now) result.now }
     {
         self.made.places()
     }

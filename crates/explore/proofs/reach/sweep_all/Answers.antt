@@ -1,5 +1,5 @@
 use Rattle.std.proofs.Common.{◌<◌, [], length, get_or, take, sym, refl, ◌∙◌, subst, arith}
-use Rattle.std.specs.List.{AllByRecursion as All}
+use Rattle.std.specs.List.{AllByRecursion}
 use Rattle.std.proofs.lemmas.List.{take_all}
 use Rattle.std.proofs.ByRecursion.{All-get_or, All-more, All-weaker}
 use Rattle.scratch.specs.Held.{held as stacked}
@@ -69,7 +69,7 @@ returns g c =
     let all = take_all c.loop-gate.gate-index (world_of world).gates (omega arith) in
     record {
       widens = c.loop-gate.invariant.3;
-      settled = subst (λ gates. All (Settled m v (stacked c.loop-gate.waiting) (regions c.loop-gate.marks)) gates) all c.loop-gate.invariant.4;
+      settled = subst (λ gates. AllByRecursion (Settled m v (stacked c.loop-gate.waiting) (regions c.loop-gate.marks)) gates) all c.loop-gate.invariant.4;
       room = c.loop-gate.invariant.0;
       places = c.loop-gate.invariant.1;
       loan = c.loop-gate.invariant.2;

@@ -1,5 +1,5 @@
 use Rattle.std.proofs.Common.{◌≡◌, [], take}
-use Rattle.std.specs.List.{AllByRecursion as All}
+use Rattle.std.specs.List.{AllByRecursion}
 use Rattle.scratch.specs.Held.{held as stacked, room}
 use Rattle.scratch.specs.Marks.{regions, places, SameLoan}
 use Rattle.world.specs.Worlds.{world_of}
@@ -15,4 +15,4 @@ invariant-loop-gate g l =
     × (places l.marks ≡ places l.initial.marks)
     × SameLoan l.initial.marks l.marks
     × Widens m w v (regions l.initial.marks) [] (regions l.marks) (stacked l.waiting)
-    × All (Settled m v (stacked l.waiting) (regions l.marks)) (take l.gate-index w.gates)
+    × AllByRecursion (Settled m v (stacked l.waiting) (regions l.marks)) (take l.gate-index w.gates)

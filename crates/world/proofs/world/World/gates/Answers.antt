@@ -1,6 +1,6 @@
 use Rattle.std.proofs.Common.{◌≡◌, ◌≤◌, List, map, length, sym, refl, subst}
 use Rattle.world.specs.Listed.{listed}
-use Rattle.std.specs.List.{AllByRecursion as All}
+use Rattle.std.specs.List.{AllByRecursion}
 use Rattle.world.specs.declared.rows.Gate.{Gate}
 use Rattle.world.specs.declared.world.World.{World}
 use Rattle.world.specs.Worlds.{draft_of, world_of, gateway, gate_rows, KnownGate, Chained}
@@ -20,6 +20,6 @@ returns c =
       rows = c.gates.ensures;
       meaning = subst (λ (rows : List Gate). map (gateway w) rows ≡ (world_of w).gates) e (stand_for w);
       few = subst (λ (rows : List Gate). length rows ≤ 256) e w.made.gates.few;
-      known = subst (All (KnownGate w)) e (known_gates w);
+      known = subst (AllByRecursion (KnownGate w)) e (known_gates w);
       chained = subst Chained e w.made.chains_go_on;
     }

@@ -1,6 +1,6 @@
 use Rattle.std.proofs.Common.{◌≡◌, ◌≤◌, List, map, length, sym, refl, subst}
 use Rattle.world.specs.Listed.{listed}
-use Rattle.std.specs.List.{AllByRecursion as All}
+use Rattle.std.specs.List.{AllByRecursion}
 use Rattle.world.specs.declared.rows.Place.{Place}
 use Rattle.world.specs.declared.world.World.{World}
 use Rattle.world.specs.Worlds.{draft_of, world_of, spot, KnownPlace}
@@ -18,5 +18,5 @@ returns c =
     record {
       meaning = subst (λ (rows : List Place). map (spot w) rows ≡ (world_of w).places) e (stand_for w);
       few = subst (λ (rows : List Place). length rows ≤ 256) e w.made.places.few;
-      known = subst (All (KnownPlace w)) e (known_places w);
+      known = subst (AllByRecursion (KnownPlace w)) e (known_places w);
     }
