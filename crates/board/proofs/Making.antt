@@ -1,5 +1,5 @@
 -- Whether a board is made.
-use Rattle.std.proofs.Common.{◌≡◌, ℕ, ◌<◌, ◌≤◌, true, false, length, Some, None, sym, ap, ◌∙◌}
+use Rattle.std.proofs.Common.{◌≡◌, ◌<◌, ◌≤◌, true, false, length, Some, None, ap, ◌∙◌}
 use Rattle.std.proofs.lemmas.Bool.{lt-ltb, le-ltb, cond-true, cond-false}
 use Rattle.inventory.specs.Meaning.{Meaning, held}
 use Rattle.model.specs.declared.board_refusal.BoardRefusal.TheVariants.{TooManyItems, GoalUnmet}

@@ -1,5 +1,5 @@
 -- A take up on a board is one on its table.
-use Rattle.std.proofs.Common.{◌≡◌, ℕ, zero, suc, Bool, true, false, cond, not, ◌||◌, ltb, List, [], ◌∷◌, length, set, Some, None, Ok, Err, Option, Result, sym, refl, ap, ◌∙◌, length-set}
+use Rattle.std.proofs.Common.{◌≡◌, ℕ, zero, suc, Bool, true, false, cond, not, ltb, [], ◌∷◌, length, set, Some, None, Ok, Err, Option, Result, refl, ap, ◌∙◌, length-set}
 use Rattle.std.proofs.lemmas.Bool.{or_parts, or_from}
 use Rattle.model.specs.declared.board_refusal.BoardRefusal.{BoardRefusal}
 use Rattle.model.specs.declared.board_refusal.BoardRefusal.TheVariants as board

@@ -1,5 +1,5 @@
 -- What is known of the item in hand.
-use Rattle.std.specs.Prelude.{◌≡◌, ℕ, ◌<◌, false, length, Some, None, Option}
+use Rattle.std.specs.Prelude.{◌≡◌, ℕ, ◌<◌, false, length, Some, Option}
 use Rattle.model.specs.Worlds.{World}
 use Rattle.model.specs.Placements.{Placement}
 use Rattle.model.specs.Boards.{is_set}

@@ -4,7 +4,6 @@ use Rattle.std.specs.List.{range_with_len}
 use Rattle.std.proofs.lemmas.List.{get_or-take}
 use Rattle.scratch.specs.declared.marks.Marks.{Marks}
 use Rattle.scratch.specs.Marks.{places}
-use Rattle.model.specs.Marks.{at}
 use Rattle.model.specs.Worlds.{World as Atlas}
 use Rattle.model.specs.Placements.{Placement, item_at}
 use Rattle.model.specs.Boards.{no_item, is_set}

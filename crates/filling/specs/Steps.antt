@@ -1,5 +1,5 @@
 -- One item of an attempt: which is drawn, and where it is set.
-use Rattle.std.specs.Prelude.{◌≡◌, ℕ, ◌<◌, Bool, false, ◌&&◌, List, [], ◌∷◌, length, set, Some, filter, ◌≢◌, slice_index, slice_set}
+use Rattle.std.specs.Prelude.{◌≡◌, ℕ, ◌<◌, Bool, false, ◌&&◌, List, [], ◌∷◌, length, Some, filter, ◌≢◌, slice_index, slice_set}
 use Rattle.std.specs.List.{remove, range_with_len, AllByRecursion}
 use Rattle.inventory.specs.Meaning.{Meaning}
 use Rattle.draw.specs.Source.{Source}

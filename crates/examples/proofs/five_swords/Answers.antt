@@ -1,4 +1,4 @@
-use Rattle.std.proofs.Common.{ℕ, ap, ◌∙◌}
+use Rattle.std.proofs.Common.{ap, ◌∙◌}
 use Rattle.inventory.specs.Capped.{tiers}
 use Rattle.examples.proofs.five_swords.Goals as goal
 

@@ -1,4 +1,4 @@
-use Rattle.std.proofs.Common.{◌≡◌, length, sym, ap, ◌∙◌}
+use Rattle.std.proofs.Common.{length, sym, ap, ◌∙◌}
 use Rattle.model.specs.Boards.{Board as Model, set_at, put_back, left_by}
 use Rattle.board.specs.declared.token.Token.{Token}
 use Rattle.board.specs.Boards.{atlas_of, board_of}

@@ -1,6 +1,5 @@
-use Rattle.std.proofs.Common.{◌≡◌, sym, refl, ap, ◌∙◌, rules}
+use Rattle.std.proofs.Common.{rules}
 use Rattle.board.specs.Boards.{atlas_of, board_of}
-use Rattle.model.specs.Boards.{is_set}
 use Rattle.board.proofs.board.Board.back.Goals as goal
 
 pub returns : goal.returns

@@ -1,4 +1,4 @@
-use Rattle.std.proofs.Common.{◌≡◌, Bool, List, sym, ap, ◌∙◌}
+use Rattle.std.proofs.Common.{ap, ◌∙◌}
 use Rattle.model.specs.Marks.{at}
 use Rattle.model.specs.Placements.{Placement, gathered}
 use Rattle.board.specs.Boards.{atlas_of, board_of}

@@ -1,5 +1,5 @@
-use Rattle.std.proofs.Common.{◌≡◌, sym, refl, ap, ◌∙◌, rules}
-use Rattle.board.specs.Boards.{atlas_of, board_of}
+use Rattle.std.proofs.Common.{rules}
+use Rattle.board.specs.Boards.{board_of}
 use Rattle.board.proofs.board.Board.holds.Goals as goal
 
 pub returns-in-Some : goal.returns-in-Some

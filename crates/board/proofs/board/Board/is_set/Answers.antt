@@ -1,5 +1,4 @@
-use Rattle.std.proofs.Common.{◌≡◌, sym, refl, ap, ◌∙◌, rules}
-use Rattle.board.specs.Boards.{atlas_of, board_of}
+use Rattle.board.specs.Boards.{board_of}
 use Rattle.model.specs.Boards.{is_set}
 use Rattle.board.proofs.board.Board.is_set.Goals as goal
 

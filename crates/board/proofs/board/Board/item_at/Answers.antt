@@ -1,5 +1,4 @@
-use Rattle.std.proofs.Common.{◌≡◌, sym, refl, ap, ◌∙◌, rules}
-use Rattle.board.specs.Boards.{atlas_of, board_of}
+use Rattle.board.specs.Boards.{board_of}
 use Rattle.board.proofs.board.Board.item_at.Goals as goal
 
 pub returns : goal.returns

@@ -1,4 +1,4 @@
-use Rattle.std.proofs.Common.{◌≡◌, ℕ, false, length, sym, ap, ◌∙◌, subst, arith, rules}
+use Rattle.std.proofs.Common.{◌≡◌, ℕ, false, length, sym, ap, subst, arith, rules}
 use Rattle.model.specs.Boards.{is_set}
 use Rattle.sheet.specs.Tables.{placement_of}
 use Rattle.board.specs.Boards.{atlas_of, board_of}

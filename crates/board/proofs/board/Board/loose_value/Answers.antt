@@ -1,4 +1,4 @@
-use Rattle.std.proofs.Common.{◌≡◌, ℕ, ◌+◌, ◌<◌, Bool, not, ◌&&◌, List, length, get_or, sym, ap, ◌∙◌, arith}
+use Rattle.std.proofs.Common.{ℕ, ◌+◌, ◌<◌, Bool, not, ◌&&◌, List, length, get_or, sym, ap, ◌∙◌, arith}
 use Rattle.model.specs.Worlds.{stocked, with_items}
 use Rattle.model.specs.Boards.{Board as Model, is_set, is_item, loose}
 use Rattle.board.specs.Boards.{atlas_of, board_of}

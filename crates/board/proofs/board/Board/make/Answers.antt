@@ -1,9 +1,9 @@
-use Rattle.std.proofs.Common.{◌≡◌, ℕ, List, length, Some, None, Option, sym, refl, ap, ◌∙◌, arith}
+use Rattle.std.proofs.Common.{◌≡◌, ℕ, length, Some, None, Option, sym, refl, ap, ◌∙◌, arith}
 use lib.ListN.{length-map}
 use Rattle.model.specs.Worlds.{World as Atlas}
 use Rattle.model.specs.Placements.{Placement}
 use Rattle.world.specs.Worlds.{world_of}
-use Rattle.sheet.specs.Tables.{placement_of, blank}
+use Rattle.sheet.specs.Tables.{blank}
 use Rattle.board.specs.Boards.{atlas_of, board_of}
 use Rattle.board.proofs.Making.{too_many, unmet, makes}
 use Rattle.board.proofs.board.Board.make.Goals as goal

@@ -1,5 +1,5 @@
-use Rattle.std.proofs.Common.{◌≡◌, sym, refl, ap, ◌∙◌, rules}
-use Rattle.board.specs.Boards.{atlas_of, board_of}
+use Rattle.std.proofs.Common.{◌∙◌}
+use Rattle.board.specs.Boards.{atlas_of}
 use Rattle.board.proofs.board.Board.place_count.Goals as goal
 
 pub returns : goal.returns

@@ -1,4 +1,4 @@
-use Rattle.std.proofs.Common.{◌≡◌, length, set, Some, None, sym, refl, ap, ◌∙◌, arith}
+use Rattle.std.proofs.Common.{set, Some, None, refl, ap, ◌∙◌, arith}
 use Rattle.model.specs.Placements.{Placement}
 use Rattle.sheet.specs.Changes.{unless, left_by}
 use Rattle.sheet.specs.Tables.{placement_of}

@@ -1,6 +1,5 @@
-use Rattle.std.proofs.Common.{◌≡◌, is_ok, Err, sym, refl, ap, ◌∙◌}
+use Rattle.std.proofs.Common.{is_ok, Err, sym, refl, ap, ◌∙◌}
 use Rattle.model.specs.Placements.{Placement}
-use Rattle.model.specs.Boards.{Board as Model}
 use Rattle.sheet.specs.Tables.{placement_of}
 use Rattle.board.specs.Boards.{atlas_of, board_of}
 use Rattle.board.proofs.Taking.{accepted, refused, kept}
