@@ -1,4 +1,4 @@
--- A world of two regions and three places, as it is read from its text, and what is open and gathered in it.
+-- A world of two regions and three places, and what is open and gathered in it.
 use Rattle.std.specs.Prelude.{◌≡◌, ℕ, true, false, T, List, [], ◌∷◌, Some, None, Ok, Err}
 use Rattle.inventory.specs.declared.family.Family.TheVariants.{Key, Count, Tier}
 use Rattle.inventory.specs.Meaning.{with_codes}
