@@ -11,23 +11,12 @@ import os
 import re
 import sys
 
+from port_names import read, walk
+
 TOKEN = re.compile(r"(?<![\w'◌≡≤<])[A-Za-z_][A-Za-z0-9_']*(?:-[A-Za-z0-9_']+)+(?![\w'≡≤≢ℕ◌→-])")
 MADE = [("in-default", "in_default"), ("in-ok", "in_ok"), ("in-err", "in_err"), ("invariant-of-", "invariant_of-"), ("offset-bounds-", "offset_bounds-")]
 MADE += [(f"overflow-{w}-", f"overflow_{w}-") for w in ("add", "sub", "mul", "cast", "shl", "shr", "step", "neg")]
 MADE += [("nonzero-div-", "nonzero_div-"), ("nonzero-rem-", "nonzero_rem-")]
-
-
-def walk(top, ends):
-    for base, dirs, files in os.walk(top):
-        dirs[:] = sorted(d for d in dirs if d not in (".git", "out", "target"))
-        for f in sorted(files):
-            if f.endswith(ends):
-                yield os.path.join(base, f)
-
-
-def read(p):
-    with open(p, encoding="utf-8") as f:
-        return f.read()
 
 
 def main():
@@ -65,4 +54,5 @@ def main():
     print(f"{changed} proof files changed")
 
 
-main()
+if __name__ == "__main__":
+    main()

@@ -162,4 +162,5 @@ def main():
     print(f"{len(names)} names of ours, {changed} files changed")
 
 
-main()
+if __name__ == "__main__":
+    main()
