@@ -1,2 +1,1 @@
 pub mod Live
-pub mod Taken

@@ -2,31 +2,23 @@
 ghost use Rattle.std.specs.Prelude.{◌≡◌};
 ghost use Rattle.draw.specs.Refusals.{number_of};
 
-use std::fmt;
+use thiserror::Error;
 
-#[derive(Clone, Copy, PartialEq, Eq, Debug)]
+#[derive(Clone, Copy, PartialEq, Eq, Debug, Error)]
 pub enum BadSource {
+    #[error("a seed is at least 1")]
     ZeroSeed,
+    #[error("a tape has at most 512 numbers")]
     LongTape,
 }
 
 impl BadSource {
-    // The refusal's number.
+    // The refusal's number, one for both, so it cannot be the variant's own.
     pub fn number(self) -> u8
         ensures { result ≡ number_of self }
     {
         match self {
-            BadSource::ZeroSeed => 38,
-            BadSource::LongTape => 38,
-        }
-    }
-}
-
-impl fmt::Display for BadSource {
-    fn fmt<W: fmt::Write>(&self, f: &mut fmt::Formatter<W>) -> fmt::Result {
-        match self {
-            BadSource::ZeroSeed => write!(f, "a seed is at least 1"),
-            BadSource::LongTape => write!(f, "a tape has at most 512 numbers"),
+            BadSource::ZeroSeed | BadSource::LongTape => 38,
         }
     }
 }

@@ -1,5 +1,5 @@
 // A source that goes on from a seed: a 64-bit number, never 0, mixed anew by each draw.
-ghost use Rattle.std.specs.Prelude.{◌≡◌, ℕ, ◌<◌, Ok, Err};
+ghost use Rattle.std.specs.Prelude.{◌≡◌, ◌<◌, Ok, Err};
 ghost use Rattle.draw.specs.Xorshift.{seeded, seeded_fair, xorshift};
 ghost use Rattle.draw.specs.declared.refusal.BadSource.TheVariants.{ZeroSeed};
 
@@ -46,11 +46,12 @@ impl DrawSource for Seeded {
 
     ghost fair = { seeded_fair };
 
+    #[tactic(auto, using(crate::proofs::Live::xorshift_live))]
     fn draw(&mut self, n: u16) -> u16 {
         if n == 0 {
             return 0;
         }
         self.state = mixed(self.state);
-        (self.state % n as u64) as u16
+        (self.state % u64::from(n)) as u16
     }
 }

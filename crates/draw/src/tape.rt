@@ -1,5 +1,5 @@
 // A source of numbers written down beforehand, taken in order; past their end it answers 0.
-ghost use Rattle.std.specs.Prelude.{◌≡◌, ℕ, ◌<◌, ◌≤◌, length, Ok, Err};
+ghost use Rattle.std.specs.Prelude.{◌≡◌, ◌<◌, ◌≤◌, length, Ok, Err};
 ghost use Rattle.draw.specs.Tapes.{first, others, tape, tape_fair};
 ghost use Rattle.draw.specs.declared.refusal.BadSource.TheVariants.{LongTape};
 
@@ -26,13 +26,7 @@ impl<'a> Tape<'a> {
         ensures number { result ≡ first self.old.rest.now }
         ensures rest { self.new.rest.now ≡ others self.old.rest.now }
     {
-        match self.rest {
-            [] => 0,
-            [first, others @ ..] => {
-                self.rest = others;
-                *first
-            }
-        }
+        self.rest.split_off_first().copied().unwrap_or(0)
     }
 }
 
@@ -44,6 +38,7 @@ impl<'a> DrawSource for Tape<'a> {
     ghost fair = { tape_fair };
 
     fn draw(&mut self, n: u16) -> u16 {
+        // The seeded source's test too: one impl for every stream of numbers would forbid callers a source of their own.
         if n == 0 {
             return 0;
         }

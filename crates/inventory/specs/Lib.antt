@@ -7,4 +7,5 @@ pub mod Paired
 pub mod PairedLaws
 pub mod Barren
 pub mod Families
+pub mod FamilyNames
 pub mod Laws

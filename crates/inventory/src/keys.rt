@@ -1,5 +1,5 @@
 // Keys: a set of the codes 0 to 31.
-ghost use Rattle.std.specs.Prelude.{◌≡◌, ℕ, ◌<◌, ◌≤◌, false, replicate};
+ghost use Rattle.std.specs.Prelude.{◌≡◌};
 ghost use Rattle.inventory.specs.Keyset.{keys, members, set_of};
 ghost use Rattle.inventory.specs.KeysetLaws.{keys_lawful};
 
@@ -10,32 +10,21 @@ pub struct Keys {
     has: [bool; 32],
 }
 
-fn none() -> [bool; 32]
-    ensures { result ≡ replicate 32 false }
-{
-    [false; 32]
-}
-
 impl Keys {
     // Whether the code is a member.
     pub fn contains(&self, code: u16) -> bool
         ensures { result ≡ set_of self.now.has code }
     {
-        let i = code as usize;
-        if i < 32 { self.has[i] } else { false }
+        self.has
+            .get(usize::from(code))
+            .is_some_and(|member| *member)
     }
 
     // How many codes are members.
     pub fn count(&self) -> u16
         ensures { result ≡ members (set_of self.now.has) 32 }
     {
-        let mut members = 0;
-        for code in 0..32 {
-            if self.contains(code) {
-                members += 1;
-            }
-        }
-        members
+        self.has.iter().filter(|member| **member).count() as u16
     }
 }
 
@@ -46,19 +35,20 @@ impl Inventory for Keys {
 
     ghost lawful = { keys_lawful };
 
+    #[tactic(auto, using(crate::proofs::Repeated::no_keys))]
     fn empty() -> Keys {
-        Keys { has: none() }
+        Keys { has: [false; 32] }
     }
 
     fn add(&mut self, code: u16) {
-        let i = code as usize;
-        if i < 32 {
-            self.has[i] = true;
+        let index = usize::from(code);
+        // No `get_mut`: of an array it leaves a proof without the other elements.
+        if index < self.has.len() {
+            self.has[index] = true;
         }
     }
 
     fn holds(&self, code: u16, amount: u16) -> bool {
-        let i = code as usize;
-        i < 32 && amount == 1 && self.has[i]
+        amount == 1 && self.contains(code)
     }
 }

@@ -12,7 +12,7 @@ ghost use Rattle.std.specs.Prelude.{◌≡◌};
 ghost use Rattle.inventory.specs.Meaning.{Meaning, Lawful, held};
 
 pub use barren::Barren;
-pub use family::{Family, WorldInventory};
+pub use family::{Family, NoSuchFamily, WorldInventory};
 pub use keys::Keys;
 pub use laws::{
     families_meet_what_they_hold, kinds_are_their_familys_own, meeting_nothing_is_lawful,

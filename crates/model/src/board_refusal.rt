@@ -2,27 +2,40 @@
 ghost use Rattle.std.specs.Prelude.{◌≡◌};
 ghost use Rattle.model.specs.Refusals.{board_number};
 
-use std::fmt;
+use thiserror::Error;
 
-#[derive(Clone, Copy, PartialEq, Eq, Debug)]
+#[derive(Clone, Copy, PartialEq, Eq, Debug, Error)]
 pub enum BoardRefusal {
+    #[error("a call needs at least 320 work marks")]
     FewMarks,
+    #[error("the pool has more items than there are places")]
     TooManyItems,
+    #[error("the stock and the whole pool do not meet the goal")]
     GoalUnmet,
+    #[error("the pool has no such item")]
     NoItem,
+    #[error("an item is in hand")]
     HandFull,
+    #[error("the item lies at a place")]
     ItemSet,
+    #[error("in the last attempt no place was left for item {item}")]
     NoCandidate { item: u16 },
+    #[error("the item is not in this board's hand")]
     NotInHand,
+    #[error("the world has no such place")]
     NoPlace,
+    #[error("an item lies at the place")]
     PlaceTaken,
+    #[error("the place is not gathered without the item")]
     NotGathered,
+    #[error("no item lies at the place")]
     PlaceEmpty,
+    #[error("a fill makes 1 to 64 attempts")]
     BadAttempts,
 }
 
 impl BoardRefusal {
-    // The refusal's number.
+    // The refusal's number: by a `match`, since of an enum that has a field there is no `as u8`.
     pub fn number(self) -> u8
         ensures { result ≡ board_number self }
     {
@@ -40,35 +53,6 @@ impl BoardRefusal {
             BoardRefusal::NotGathered => 29,
             BoardRefusal::PlaceEmpty => 30,
             BoardRefusal::BadAttempts => 31,
-        }
-    }
-}
-
-impl fmt::Display for BoardRefusal {
-    fn fmt<W: fmt::Write>(&self, f: &mut fmt::Formatter<W>) -> fmt::Result {
-        match self {
-            BoardRefusal::FewMarks => write!(f, "a call needs at least 320 work marks"),
-            BoardRefusal::TooManyItems => write!(
-                f,
-                "the pool has more items than there are places"
-            ),
-            BoardRefusal::GoalUnmet => write!(
-                f,
-                "the stock and the whole pool do not meet the goal"
-            ),
-            BoardRefusal::NoItem => write!(f, "the pool has no such item"),
-            BoardRefusal::HandFull => write!(f, "an item is in hand"),
-            BoardRefusal::ItemSet => write!(f, "the item lies at a place"),
-            BoardRefusal::NoCandidate { item } => write!(
-                f,
-                "in the last attempt no place was left for item {item}"
-            ),
-            BoardRefusal::NotInHand => write!(f, "the item is not in this board's hand"),
-            BoardRefusal::NoPlace => write!(f, "the world has no such place"),
-            BoardRefusal::PlaceTaken => write!(f, "an item lies at the place"),
-            BoardRefusal::NotGathered => write!(f, "the place is not gathered without the item"),
-            BoardRefusal::PlaceEmpty => write!(f, "no item lies at the place"),
-            BoardRefusal::BadAttempts => write!(f, "a fill makes 1 to 64 attempts"),
         }
     }
 }

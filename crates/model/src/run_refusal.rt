@@ -2,18 +2,26 @@
 ghost use Rattle.std.specs.Prelude.{◌≡◌};
 ghost use Rattle.model.specs.Refusals.{run_number};
 
-use std::fmt;
+use thiserror::Error;
 
-#[derive(Clone, Copy, PartialEq, Eq, Debug)]
+#[derive(Clone, Copy, PartialEq, Eq, Debug, Error)]
 pub enum RunRefusal {
-    FewMarks,
-    OtherCount,
-    OutsidePool,
-    NotWhole,
-    NotStarted,
-    NoPlace,
-    AlreadyTaken,
-    Closed,
+    #[error("a call needs at least 320 work marks")]
+    FewMarks = 19,
+    #[error("the sheet has another number of places than the world")]
+    OtherCount = 14,
+    #[error("the sheet names an item that the pool does not have")]
+    OutsidePool = 16,
+    #[error("an item of the pool lies nowhere, or where the stock never leads")]
+    NotWhole = 32,
+    #[error("no run was started")]
+    NotStarted = 34,
+    #[error("the world has no such place")]
+    NoPlace = 27,
+    #[error("the place was taken before")]
+    AlreadyTaken = 36,
+    #[error("the place is closed")]
+    Closed = 37,
 }
 
 impl RunRefusal {
@@ -21,39 +29,6 @@ impl RunRefusal {
     pub fn number(self) -> u8
         ensures { result ≡ run_number self }
     {
-        match self {
-            RunRefusal::FewMarks => 19,
-            RunRefusal::OtherCount => 14,
-            RunRefusal::OutsidePool => 16,
-            RunRefusal::NotWhole => 32,
-            RunRefusal::NotStarted => 34,
-            RunRefusal::NoPlace => 27,
-            RunRefusal::AlreadyTaken => 36,
-            RunRefusal::Closed => 37,
-        }
-    }
-}
-
-impl fmt::Display for RunRefusal {
-    fn fmt<W: fmt::Write>(&self, f: &mut fmt::Formatter<W>) -> fmt::Result {
-        match self {
-            RunRefusal::FewMarks => write!(f, "a call needs at least 320 work marks"),
-            RunRefusal::OtherCount => write!(
-                f,
-                "the sheet has another number of places than the world"
-            ),
-            RunRefusal::OutsidePool => write!(
-                f,
-                "the sheet names an item that the pool does not have"
-            ),
-            RunRefusal::NotWhole => write!(
-                f,
-                "an item of the pool lies nowhere, or where the stock never leads"
-            ),
-            RunRefusal::NotStarted => write!(f, "no run was started"),
-            RunRefusal::NoPlace => write!(f, "the world has no such place"),
-            RunRefusal::AlreadyTaken => write!(f, "the place was taken before"),
-            RunRefusal::Closed => write!(f, "the place is closed"),
-        }
+        self as u8
     }
 }

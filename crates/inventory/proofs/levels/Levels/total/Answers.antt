@@ -1,8 +1,13 @@
-use Rattle.std.proofs.Common.{ap, add-one, arith}
-use Rattle.inventory.specs.Capped.{up_to, levels_of, sum_of_levels}
+use Rattle.std.proofs.Common.{◌≡◌, length, sum, refl, sym, ◌∙◌, rules}
+use Rattle.std.proofs.iter.runs.Sources.{sums}
+use Rattle.inventory.proofs.Sums.{summed}
 use Rattle.inventory.proofs.levels.Levels.total.Goals as goal
 
-pub loop-code-preserved : goal.loop-code-preserved
-loop-code-preserved g c =
-    let step = ap (sum_of_levels (up_to g.row.TOP) (levels_of g.row.TOP c.args.self.now.level)) (add-one c.loop-code.code) in
-    (omega arith, omega arith)
+pub sum-requires-clause-fits : goal.sum-requires-clause-fits
+sum-requires-clause-fits g c = search (rules, sums)
+
+pub returns : goal.returns
+returns g c =
+    let rows : length c.args.self.now.level ≡ 32 = search rules in
+    let e : c.sum.result ≡ sum c.args.self.now.level = search rules in
+    e ∙ sym (summed g.row.TOP c.args.self.now.level rows c.args.self.now.within 32 refl)
