@@ -3,11 +3,12 @@ use Rattle.std.proofs.Common.{◌≡◌, ℕ, zero, suc, ◌^◌, ◌<◌, ◌�
 use Rattle.std.proofs.lemmas.Str.Parse.{IsNumeralModel, numerals_by_fold, digits_value_short}
 use Rattle.std.proofs.lemmas.Fmt.{digits_decimal, digits_value-decimal, decimal-digits_value, decimal_nonempty, decimal_digit, length-decimal-le, first_decimal}
 use Rattle.std.proofs.lemmas.Bool.{and_parts, and_from, leb-true, le-leb, ne_eqb, not-true, not_from_false, eq-eqb, false≢true}
-use Rattle.words.specs.Spelling.{Bytes, each, digit, first, sized, spelled, number, amount}
+use Rattle.std.specs.List.{list_all}
+use Rattle.words.specs.Spelling.{Bytes, digit, first, sized, spelled, number, amount}
 use Rattle.words.specs.declared.spelling.Alphabet.TheVariants.{Counting}
 use Rattle.words.specs.Laws.{AmountLaws}
 
-own : IsNumeralModel (λ row. each digit row ≡ true) (number 0)
+own : IsNumeralModel (λ row. list_all digit row ≡ true) (number 0)
 own = numerals_by_fold _ (search rules) number (search rules)
 
 pub amount_reads : (n : ℕ) → 1 ≤ n → n ≤ 999 → amount (decimal n) ≡ Some n
@@ -42,7 +43,7 @@ above_zero row (suc n) e ne = omega arith
 pub amount_decimal : (row : Bytes) (n : ℕ) → amount row ≡ Some n → (row ≡ decimal n) × (1 ≤ n) × (n ≤ 999)
 amount_decimal row n p =
     let s = amount_of row n p in
-    let digits = and_parts (sized 3 row && not (eqb (first row) 48)) (each digit row) s.ok in
+    let digits = and_parts (sized 3 row && not (eqb (first row) 48)) (list_all digit row) s.ok in
     let lead = and_parts (sized 3 row) (not (eqb (first row) 48)) digits.0 in
     let size = and_parts (leb 1 (length row)) (leb (length row) 3) lead.0 in
     let some : 1 ≤ length row = leb-true 1 _ size.0 in

@@ -1,11 +1,12 @@
 -- What words say in a rule, and how they are spelled.
-use Rattle.std.proofs.Common.{◌≡◌, ℕ, suc, ◌<◌, ◌≤◌, Bool, true, false, cond, ◌&&◌, ◌||◌, ◌⊎◌, ◌∷◌, ◌++◌, length, Some, None, codes, decimal, Option, sym, refl, ap, ◌∙◌, inl, inr, arith}
+use Rattle.std.proofs.Common.{◌≡◌, ℕ, ◌+◌, ◌==◌, ◌<◌, ◌≤◌, true, false, cond, ◌&&◌, ◌||◌, ◌⊎◌, ◌∷◌, ◌++◌, length, Some, None, codes, decimal, Option, sym, refl, ap, ◌∙◌, inl, inr, arith}
 use Rattle.std.proofs.lemmas.Slice.Eq.{bytes_eq-Decides}
 use Rattle.std.proofs.lemmas.List.{length-drop}
 use Rattle.std.proofs.lemmas.Fmt.{decimal_nonempty}
-use Rattle.std.proofs.lemmas.Bool.{and_parts, or_parts, or_from, both_ways, cond-true, cond-false, cond_both}
+use Rattle.std.proofs.lemmas.Bool.{and_parts, or_parts, or_from, both_ways, cond-true, cond-false, cond_both, false_from_ne_true}
 use Rattle.std.specs.Str.{bytes_eq}
-use Rattle.words.specs.Spelling.{Bytes, each, naming, letter, first, sized, is_name, amount}
+use Rattle.std.specs.List.{list_all, position_or_len}
+use Rattle.words.specs.Spelling.{Bytes, naming, letter, first, sized, is_name, amount}
 use Rattle.words.specs.Splitting.{front, behind, lacks}
 use Rattle.words.specs.Saying.{Class, free, both, either, needs, other, class, with_amount, own_word, Alone, Counted, Spelled}
 use Rattle.words.specs.Laws.{ClassLaws}
@@ -21,7 +22,8 @@ counted_sound : (row : Bytes) (o : Option ℕ) → amount (behind 58 row) ≡ o 
 counted_sound row None e = inl refl
 counted_sound row (Some n) e =
     let a = amount_decimal (behind 58 row) n e in
-    let long : length (front 58 row) < length row = omega (arith, length-drop (suc (length (front 58 row))) row, ap length a.0, decimal_nonempty n (omega arith)) in
+    let at : ℕ = position_or_len (λ x. x == 58) row in
+    let long : at < length row = omega (arith, length-drop (at + 1) row, ap length a.0, decimal_nonempty n (omega arith)) in
     let same : row ≡ front 58 row ++ 58 ∷ decimal n = front_behind 58 row long ∙ ap (λ l. front 58 row ++ 58 ∷ l) a.0 in
     let good : is_name (front 58 row) ≡ true → Counted (front 58 row) n row = λ k. record { named = k; some = a.1; most = a.2; same = same } in
     cond_both (is_name (front 58 row)) (needs (front 58 row) n) other (Sound row) (λ k. inr (inr (good k))) (λ k. inl refl)
@@ -40,13 +42,9 @@ class_spelled row =
     cond_both (is_name row) (needs row 1) counted (Sound row) (λ n. inr (inl (alone (or_from _ _ (or_from _ _ f a) o) n))) (λ n.
     counted_sound row (amount (behind 58 row)) refl))))
 
-false_unless : (t : Bool) → (t ≡ true → ⊥) → t ≡ false
-false_unless true no_way = absurd (no_way refl)
-false_unless false no_way = refl
-
 name_lacks : (row : Bytes) → is_name row ≡ true → lacks 58 row ≡ true
 unfolding is_name
-name_lacks row h = bytes_lack naming 58 refl row (and_parts (sized 12 row && letter (first row)) (each naming row) h).1
+name_lacks row h = bytes_lack naming 58 refl row (and_parts (sized 12 row && letter (first row)) (list_all naming row) h).1
 
 class_alone : (row : Bytes) → is_name row ≡ true → own_word row ≡ false → class row ≡ needs row 1
 unfolding class
@@ -59,10 +57,10 @@ class_colon : (row : Bytes) → lacks 58 row ≡ false → class row ≡ with_am
 unfolding class
 class_colon row h =
     let differs : (word : Bytes) → lacks 58 word ≡ true → bytes_eq row word ≡ false =
-    λ word k. false_unless _ (λ e. both_ways _ h (ap (lacks 58) ((bytes_eq-Decides row word).0 e) ∙ k))
+    λ word k. false_from_ne_true _ (λ e. both_ways _ h (ap (lacks 58) ((bytes_eq-Decides row word).0 e) ∙ k))
     in
     cond-false _ _ _ (differs (codes "free") refl) ∙ cond-false _ _ _ (differs (codes "and") refl) ∙ cond-false _ _ _ (differs (codes "or") refl)
-    ∙ cond-false _ _ _ (false_unless _ (λ e. both_ways _ h (name_lacks row e)))
+    ∙ cond-false _ _ _ (false_from_ne_true _ (λ e. both_ways _ h (name_lacks row e)))
 
 class_counted : (name : Bytes) (n : ℕ) → is_name name ≡ true → 1 ≤ n → n ≤ 999 → class (name ++ 58 ∷ decimal n) ≡ needs name n
 class_counted name n h some most =

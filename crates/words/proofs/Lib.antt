@@ -1,4 +1,3 @@
-pub mod Loops
 pub mod Splits
 pub mod Separators
 pub mod Lookups

@@ -1,6 +1,7 @@
 -- Names in a list.
-use Rattle.std.specs.Prelude.{ℕ, ◌+◌, Bool, cond, List, [], ◌∷◌, map, is_some, Some, None, Option}
+use Rattle.std.specs.Prelude.{ℕ, Bool, List, map, is_some, Option}
 use Rattle.std.specs.Borrow.{Bor}
+use Rattle.std.specs.List.{position_from}
 use Rattle.std.specs.Str.{bytes_eq}
 use Rattle.words.specs.Spelling.{Bytes}
 
@@ -10,8 +11,7 @@ names_in rows = map (λ x. x.now) rows
 
 -- where a name first stands in a list, counted from a number
 abbrev pub place_of : ℕ → Bytes → List Bytes → Option ℕ
-place_of at name [] = None
-place_of at name (known ∷ names) = cond (bytes_eq known name) (Some at) (place_of (at + 1) name names)
+place_of at name names = position_from (λ known. bytes_eq known name) at names
 
 -- whether a name stands in a list
 unfoldable pub among : Bytes → List Bytes → Bool

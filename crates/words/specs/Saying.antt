@@ -18,16 +18,12 @@ with_amount name None = other
 with_amount name (Some n) = cond (is_name name) (needs name n) other
 
 -- what a word says: free, and, or, a name, or a name, a colon and an amount
-abbrev pub reading : Bytes → Class
-reading word =
+unfoldable pub class : Bytes → Class
+class word =
     cond (bytes_eq word (codes "free")) free
     (cond (bytes_eq word (codes "and")) both
     (cond (bytes_eq word (codes "or")) either
     (cond (is_name word) (needs word 1) (with_amount (front 58 word) (amount (behind 58 word))))))
-
--- the same, for crates that carry it along unopened
-unfoldable pub class : Bytes → Class
-class word = reading word
 
 -- the rules' own words, which no kind is called
 abbrev pub own : Class → Bool

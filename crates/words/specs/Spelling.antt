@@ -1,5 +1,6 @@
 -- How words, names and amounts are spelled.
-use Rattle.std.specs.Prelude.{ℕ, ◌+◌, ◌-◌, ◌*◌, Bool, true, cond, not, ◌&&◌, ◌||◌, List, [], ◌∷◌, length, Some, None, Option, ◌==◌, nat_le, slice_index}
+use Rattle.std.specs.Prelude.{ℕ, ◌+◌, ◌-◌, ◌*◌, Bool, true, cond, not, ◌&&◌, ◌||◌, List, fold, length, Some, None, Option, ◌==◌, nat_le, slice_index}
+use Rattle.std.specs.List.{list_all}
 use Rattle.words.specs.declared.spelling.Alphabet.{Alphabet}
 use Rattle.words.specs.declared.spelling.Alphabet.TheVariants.{Wording, Naming, Counting}
 
@@ -29,11 +30,6 @@ in_alphabet Wording = wording
 in_alphabet Naming = naming
 in_alphabet Counting = digit
 
--- a test that holds of each
-abbrev pub each : {A : Type 0} → (A → Bool) → List A → Bool
-each test [] = true
-each test (x ∷ xs) = test x && each test xs
-
 -- the first byte
 abbrev pub first : Bytes → ℕ
 first row = slice_index row 0
@@ -56,7 +52,7 @@ may_begin Counting byte = not (byte == 48)
 
 -- a row that an alphabet can spell
 abbrev pub spelled : Alphabet → Bytes → Bool
-spelled alphabet row = sized (longest alphabet) row && may_begin alphabet (first row) && each (in_alphabet alphabet) row
+spelled alphabet row = sized (longest alphabet) row && may_begin alphabet (first row) && list_all (in_alphabet alphabet) row
 
 -- a word: 1 to 16 letters, digits and colons
 unfoldable pub is_word : Bytes → Bool
@@ -68,8 +64,7 @@ is_name row = spelled Naming row
 
 -- the number that digits spell behind those that spell a number already
 abbrev pub number : ℕ → Bytes → ℕ
-number so_far [] = so_far
-number so_far (byte ∷ row) = number (so_far * 10 + (byte - 48)) row
+number so_far row = fold (λ sum byte. sum * 10 + (byte - 48)) so_far row
 
 -- an amount: 1 to 3 digits of which the first is not 0
 unfoldable pub amount : Bytes → Option ℕ

@@ -1,35 +1,27 @@
 -- Rows of bytes, cut at a separator and glued with it.
-use Rattle.std.specs.Prelude.{◌≡◌, ℕ, suc, ◌+◌, Bool, true, cond, not, List, [], ◌∷◌, ◌++◌, length, drop, ◌==◌}
-use Rattle.words.specs.Spelling.{Bytes, each}
+use Rattle.std.specs.Prelude.{◌≡◌, ℕ, ◌+◌, Bool, true, not, List, [], ◌∷◌, ◌++◌, length, ◌==◌}
+use Rattle.std.specs.List.{list_all, before_first, after_first, slice_split, join_with_byte}
+use Rattle.words.specs.Spelling.{Bytes}
 
 -- what stands before the first separator: the whole row if there is none
 abbrev pub front : ℕ → Bytes → Bytes
-front sep [] = []
-front sep (x ∷ xs) = cond (x == sep) [] (x ∷ front sep xs)
+front sep row = before_first (λ x. x == sep) row
 
 -- what stands behind the first separator: nothing if there is none
 abbrev pub behind : ℕ → Bytes → Bytes
-behind sep xs = drop (suc (length (front sep xs))) xs
-
--- the parts with a byte before the first of them
-abbrev pub onto : ℕ → List Bytes → List Bytes
-onto x [] = (x ∷ []) ∷ []
-onto x (p ∷ ps) = (x ∷ p) ∷ ps
+behind sep row = after_first (λ x. x == sep) row
 
 -- the row cut at every separator: one part more than there are separators
 unfoldable pub parts : ℕ → Bytes → List Bytes
-parts sep [] = [] ∷ []
-parts sep (x ∷ xs) = cond (x == sep) ([] ∷ parts sep xs) (onto x (parts sep xs))
+parts sep row = slice_split (λ x. x == sep) row
 
 -- the parts in one row, a separator between each two
 abbrev pub glued : ℕ → List Bytes → Bytes
-glued sep [] = []
-glued sep (p ∷ []) = p
-glued sep (p ∷ q ∷ ps) = p ++ sep ∷ glued sep (q ∷ ps)
+glued sep ps = join_with_byte sep ps
 
 -- no byte of the row is the separator
 abbrev pub lacks : ℕ → Bytes → Bool
-lacks sep xs = each (λ x. not (x == sep)) xs
+lacks sep row = list_all (λ x. not (x == sep)) row
 
 -- the row has no separator, and is its own only part
 pub record Whole (sep : ℕ) (row : Bytes) : Type 0 where

@@ -1,6 +1,7 @@
 // How words, names and amounts are spelled.
-ghost use Rattle.std.specs.Prelude.{◌≡◌, ◌≤◌, true, length};
-ghost use Rattle.words.specs.Spelling.{letter, digit, each, in_alphabet, longest, may_begin, spelled, is_word, is_name, number, amount};
+ghost use Rattle.std.specs.Prelude.{◌≡◌, ◌≤◌, IsTrue, length};
+ghost use Rattle.std.specs.List.{list_all};
+ghost use Rattle.words.specs.Spelling.{digit, in_alphabet, longest, may_begin, spelled, is_word, is_name, number, amount};
 
 // What words, names and amounts are spelled with: each has its bytes, its length and its first byte.
 #[derive(Clone, Copy)]
@@ -10,38 +11,21 @@ pub enum Alphabet {
     Counting,
 }
 
-fn is_letter(byte: u8) -> bool
-    ensures { result ≡ letter byte }
-{
-    byte >= b'a' && byte <= b'z'
-}
-
-fn is_digit(byte: u8) -> bool
-    ensures { result ≡ digit byte }
-{
-    byte >= b'0' && byte <= b'9'
-}
-
 impl Alphabet {
     fn holds(self, byte: u8) -> bool
         ensures { result ≡ in_alphabet self byte }
     {
         match self {
-            Alphabet::Wording => is_letter(byte) || is_digit(byte) || byte == b':',
-            Alphabet::Naming => is_letter(byte) || is_digit(byte),
-            Alphabet::Counting => is_digit(byte),
+            Alphabet::Wording => matches!(byte, b'a'..=b'z' | b'0'..=b'9' | b':'),
+            Alphabet::Naming => matches!(byte, b'a'..=b'z' | b'0'..=b'9'),
+            Alphabet::Counting => byte.is_ascii_digit(),
         }
     }
 
     fn holds_all(self, part: &[u8]) -> bool
-        ensures { result ≡ each (in_alphabet self) part.now }
+        ensures { result ≡ list_all (in_alphabet self) part.now }
     {
-        for byte in part {
-            if !self.holds(*byte) {
-                return false;
-            }
-        }
-        true
+        part.iter().all(|byte| self.holds(*byte))
     }
 
     // The most bytes that a row may have.
@@ -61,7 +45,7 @@ impl Alphabet {
     {
         match self {
             Alphabet::Wording => true,
-            Alphabet::Naming => is_letter(byte),
+            Alphabet::Naming => byte.is_ascii_lowercase(),
             Alphabet::Counting => byte != b'0',
         }
     }
@@ -69,7 +53,7 @@ impl Alphabet {
     fn spells(self, part: &[u8]) -> bool
         ensures { result ≡ spelled self part.now }
     {
-        part.len() >= 1
+        !part.is_empty()
             && part.len() <= self.longest()
             && self.begins(part[0])
             && self.holds_all(part)
@@ -77,6 +61,7 @@ impl Alphabet {
 }
 
 // Whether the bytes are a word of a world text.
+#[tactic(auto, unfolding(crate::specs::Spelling::is_word))]
 pub fn is_word(part: &[u8]) -> bool
     ensures { result ≡ is_word part.now }
 {
@@ -84,6 +69,7 @@ pub fn is_word(part: &[u8]) -> bool
 }
 
 // Whether the bytes can name a kind, a region or a place.
+#[tactic(auto, unfolding(crate::specs::Spelling::is_name))]
 pub fn is_name(part: &[u8]) -> bool
     ensures { result ≡ is_name part.now }
 {
@@ -92,10 +78,11 @@ pub fn is_name(part: &[u8]) -> bool
 
 // The number that one to three digits spell.
 fn number_of(digits: &[u8]) -> u16
-    requires digits { each digit digits.now ≡ true }
+    requires digits { IsTrue (list_all digit digits.now) }
     requires few { length digits.now ≤ 3 }
     ensures { result ≡ number 0 digits.now }
 {
+    // No `fold`: its closure would have to bound the number so far at each call, and no clause of it can.
     let mut so_far: u16 = 0;
     for byte in digits {
         so_far = so_far * 10 + u16::from(*byte - b'0');
@@ -104,12 +91,9 @@ fn number_of(digits: &[u8]) -> u16
 }
 
 // The amount that the bytes spell, if they do.
+#[tactic(auto, unfolding(crate::specs::Spelling::amount))]
 pub fn amount_of(part: &[u8]) -> Option<u16>
     ensures { result ≡ amount part.now }
 {
-    if Alphabet::Counting.spells(part) {
-        Some(number_of(part))
-    } else {
-        None
-    }
+    Alphabet::Counting.spells(part).then(|| number_of(part))
 }

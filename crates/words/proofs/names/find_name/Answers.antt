@@ -1,12 +1,12 @@
-use Rattle.std.proofs.Common.{sym, ◌∙◌}
-use Rattle.words.proofs.Lookups.{name_here, name_on, name_none}
+use Rattle.std.proofs.Common.{rules, tests}
+use Rattle.std.proofs.lemmas.Iterator.{YieldsList-from_slice}
+use Rattle.std.proofs.lemmas.Iterator.Search.{position_from_yields_List}
+use Rattle.std.specs.Str.{bytes_eq}
+use Rattle.words.proofs.Lookups.{position-map}
 use Rattle.words.proofs.names.find_name.Goals as goal
 
-pub returns-then-same : goal.returns-then-same
-returns-then-same c = sym (name_here _ c.args.name.now c.args.names.now c.loop-i.i _ c.loop-i-test.true (sym c.if-same.ensures)) ∙ c.loop-i.invariant
-
-pub loop-i-preserved : goal.loop-i-preserved
-loop-i-preserved c = sym (name_on _ c.args.name.now c.args.names.now c.loop-i.i _ c.loop-i-test.true (sym c.if-same.ensures)) ∙ c.loop-i.invariant
-
 pub returns : goal.returns
-returns c = sym (name_none _ c.args.name.now c.args.names.now c.loop-i.i c.loop-i-test.false) ∙ c.loop-i.invariant
+returns c =
+    let found = position_from_yields_List (λ known. bytes_eq known.now c.args.name.now) _ _ c.position.result c.position.ensures.ran (YieldsList-from_slice c.args.names.now cc) (λ x b q k. search (rules, tests)) in
+    let same = position-map (λ known. bytes_eq known c.args.name.now) (λ known. known.now) c.args.names.now in
+    cc
