@@ -1,3 +1,3 @@
 pub mod Stacks
 pub mod Rows
-pub mod Lengths
+pub mod Lent

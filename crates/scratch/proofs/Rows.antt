@@ -1,32 +1,46 @@
 -- Marks in a row of bytes.
-use Rattle.std.proofs.Common.{◌≡◌, ℕ, zero, suc, ◌<◌, ◌≤◌, true, false, not, eqb, ltb, List, [], ◌∷◌, map, length, get_or, take, set, sym, refl, ap, ◌∙◌}
-use lib.ListN.{length-map}
-use Rattle.std.proofs.lemmas.List.{get_or-map, get_or-take, get_or_past, map-set, take-set-le, length-take-le}
-use Rattle.std.proofs.lemmas.Bool.{le-ltb}
-use Rattle.scratch.specs.Bytes.{marks_in}
+use Rattle.std.proofs.Common.{◌≡◌, ℕ, zero, suc, ◌<◌, ◌≤◌, true, false, not, eqb, List, [], ◌∷◌, length, get_or, set, replicate, refl, ap, sym, ◌∙◌, arith}
+use Rattle.std.proofs.lemmas.List.{get_or_past, set_past, same_lists, length-replicate, get_or-replicate}
+use Rattle.scratch.specs.Marks.{marked}
 
-pub take_set : {X : Type 0} (n : ℕ) (xs : List X) (i : ℕ) (x : X) → take n (set xs i x) ≡ set (take n xs) i x
-take_set zero xs i x = refl
-take_set (suc n) [] i x = refl
-take_set (suc n) (y ∷ xs) zero x = refl
-take_set (suc n) (y ∷ xs) (suc i) x = ap (λ l. y ∷ l) (take_set n xs i x)
+-- a row of one value
+pub filled : (n v : ℕ) (row : List ℕ) → length row ≡ n → ((k d : ℕ) → k < n → get_or row k d ≡ v) → row ≡ replicate n v
+filled n v row size each =
+    same_lists row (replicate n v) (size ∙ sym (length-replicate n v)) (λ k d h.
+    let below : k < n = omega arith in
+    each k d below ∙ sym (get_or-replicate n k v d below))
 
-module _ (count : ℕ) (bytes : List ℕ) where
-  pub length_marks : count ≤ length bytes → length (marks_in count bytes) ≡ count
-  length_marks enough = length-map (take count bytes) _ ∙ length-take-le count bytes enough
+pub length_marked : (n : ℕ) (row : List ℕ) → length (marked n row) ≡ n
+unfolding marked
+length_marked zero row = refl
+length_marked (suc n) [] = ap suc (length_marked n [])
+length_marked (suc n) (byte ∷ row) = ap suc (length_marked n row)
 
-  pub read : (k x : ℕ) → k < count → count ≤ length bytes → not (eqb (get_or bytes k x) 0) ≡ get_or (marks_in count bytes) k false
-  read k x lt enough =
-      let within : k < length (take count bytes) = simp (length-take-le count bytes enough) lt in
-      ap (λ byte. not (eqb byte 0)) (sym (get_or-take count bytes k x lt)) ∙ sym (get_or-map (λ byte. not (eqb byte 0)) (take count bytes) k x false within)
+pub read : (n : ℕ) (row : List ℕ) (i : ℕ) → i < n → not (eqb (get_or row i 0) 0) ≡ get_or (marked n row) i false
+unfolding marked
+read zero row i lt = absurd (omega arith)
+read (suc n) row zero lt = refl
+read (suc n) [] (suc i) lt = read n [] i (omega arith)
+read (suc n) (byte ∷ row) (suc i) lt = read n row i (omega arith)
 
-  pub read_past : (k : ℕ) → count ≤ k → count ≤ length bytes → ltb k count ≡ get_or (marks_in count bytes) k false
-  read_past k past enough =
-      let beyond : length (marks_in count bytes) ≤ k = simp (length_marks enough) past in
-      le-ltb k count past ∙ sym (get_or_past (marks_in count bytes) k false beyond)
+pub read_past : (n : ℕ) (row : List ℕ) (i : ℕ) → n ≤ i → false ≡ get_or (marked n row) i false
+read_past n row i past =
+    let beyond : length (marked n row) ≤ i = omega (arith, length_marked n row) in
+    sym (get_or_past (marked n row) i false beyond)
 
-  pub write : (k : ℕ) → marks_in count (set bytes k 1) ≡ set (marks_in count bytes) k true
-  write k = ap (map (λ byte. not (eqb byte 0))) (take_set count bytes k 1) ∙ map-set (λ byte. not (eqb byte 0)) (take count bytes) k 1
+pub write : (n : ℕ) (row : List ℕ) (i : ℕ) → i < n → n ≤ length row → marked n (set row i 1) ≡ set (marked n row) i true
+unfolding marked
+write zero row i lt enough = absurd (omega arith)
+write (suc n) [] i lt enough = absurd (omega arith)
+write (suc n) (byte ∷ row) zero lt enough = refl
+write (suc n) (byte ∷ row) (suc i) lt enough = ap (λ l. not (eqb byte 0) ∷ l) (write n row i (omega arith) (omega arith))
 
-  pub write_past : (k : ℕ) → count ≤ k → marks_in count (set bytes k 1) ≡ marks_in count bytes
-  write_past k past = ap (map (λ byte. not (eqb byte 0))) (take-set-le count bytes k 1 past)
+pub write_past : (n : ℕ) (row : List ℕ) (i : ℕ) → n ≤ i → marked n row ≡ set (marked n row) i true
+write_past n row i past =
+    let beyond : length (marked n row) ≤ i = omega (arith, length_marked n row) in
+    sym (set_past (marked n row) i true beyond)
+
+pub wiped_row : (n : ℕ) → marked n (replicate n 0) ≡ replicate n false
+unfolding marked
+wiped_row zero = refl
+wiped_row (suc n) = ap (λ l. false ∷ l) (wiped_row n)

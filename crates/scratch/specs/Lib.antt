@@ -1,3 +1,4 @@
 pub mod Held
-pub mod Bytes
 pub mod Marks
+pub mod Lending
+pub mod Refusal

@@ -1,16 +1,14 @@
--- What the work marks say.
-use Rattle.std.specs.Prelude.{◌≡◌, Bool, List, drop}
-use Rattle.scratch.specs.Bytes.{later, marks_in}
-use Rattle.scratch.specs.declared.marks.Marks.{Marks}
+-- What rows of marks say.
+use Rattle.std.specs.Prelude.{ℕ, zero, suc, Bool, not, List, [], ◌∷◌, drop, ◌==◌, slice_index}
 
--- which of the 64 regions are marked
-unfoldable pub regions : Marks → List Bool
-regions m = marks_in 64 m.bytes.now
+-- which of the first numbers are marked: those whose byte is not 0
+unfoldable pub marked : (count : ℕ) → List ℕ → List Bool
+marked zero row = []
+marked (suc n) row = not (slice_index row 0 == 0) ∷ marked n (drop 1 row)
 
--- which of the 256 places are marked
-unfoldable pub places : Marks → List Bool
-places m = marks_in 256 (drop 64 m.bytes.now)
+-- which of the 64 regions and of the 256 places are marked
+abbrev pub region_marks : List ℕ → List Bool
+region_marks row = marked 64 row
 
--- the same bytes are on loan, and the caller's own among them hold the same
-abbrev pub SameLoan : Marks → Marks → Type 0
-SameLoan before after = (after.bytes.ghost_name ≡ before.bytes.ghost_name) × (later after.bytes.now ≡ later before.bytes.now)
+abbrev pub place_marks : List ℕ → List Bool
+place_marks row = marked 256 row

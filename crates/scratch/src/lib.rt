@@ -1,8 +1,12 @@
 // Memory that a caller lends: a stack over a borrowed slice, and the work marks.
 #![tactic(auto)]
 
+mod few_marks;
+mod lending;
 mod marks;
 mod stack;
 
-pub use marks::{Marks, WORK_MARKS};
+pub use few_marks::FewMarks;
+pub use lending::with_marks;
+pub use marks::{Marks, Places, Regions, WORK_MARKS};
 pub use stack::Stack;

@@ -1,5 +1,5 @@
 -- Rows stay sound, and stand for the same, where regions, kinds or words are added.
-use Rattle.std.proofs.Common.{◌≡◌, ℕ, ◌+◌, ◌<◌, ◌≤◌, Bool, true, false, cond, T, eqb, ltb, List, [], ◌∷◌, ◌++◌, map, length, take, drop, sym, refl, ap, ◌∙◌, subst, inl, inr, arith, le→leb, leb→le, length-append, length-drop}
+use Rattle.std.proofs.Common.{◌≡◌, ℕ, ◌+◌, ◌<◌, ◌≤◌, Bool, true, T, eqb, ltb, List, [], ◌∷◌, ◌++◌, map, length, take, drop, Some, None, Option, sym, refl, ap, ◌∙◌, subst, inl, inr, arith, le→leb, leb→le, length-append, length-drop}
 use Rattle.std.proofs.lemmas.List.{drop-append-le, take-append-le}
 use Rattle.std.proofs.lemmas.Bool.{cond-true}
 use Rattle.model.specs.declared.rule_word.RuleWord.{RuleWord}
@@ -11,7 +11,7 @@ use Rattle.model.proofs.Limits.{every_all, all_every, rule_facts, rule_test}
 use Rattle.world.specs.declared.rows.Part.{Part}
 use Rattle.world.specs.declared.rows.Gate.{Gate}
 use Rattle.world.specs.declared.rows.Place.{Place}
-use Rattle.world.specs.Rows.{inside, words, gate_of, place_of, rule_sound, gate_sound, place_sound, goal_sound}
+use Rattle.world.specs.Rows.{inside, words, goal_words, gate_of, place_of, rule_sound, gate_sound, place_sound, goal_sound}
 
 pub every_weaker : {A : Type 0} (f g : A → Bool) → ((x : A) → T (f x) → T (g x)) → (xs : List A) → T (every f xs) → T (every g xs)
 every_weaker f g h xs t = all_every g (λ x. T (f x)) h xs (every_all f (λ x. T (f x)) (λ x u. u) xs t)
@@ -48,8 +48,8 @@ words_kept table more part t =
           ∙ sym (cond-true (inside table part) _ [] (true_if _ t)),
     )
 
-pub region_more : (regions : ℕ) (kinds : List ℕ) (table : List RuleWord) → Grows regions kinds table (regions + 1) kinds table
-region_more regions kinds table = record { more_regions = omega arith; more_kinds = λ code t. t; more_words = λ part t. (t, refl) }
+pub region_more : (regions regions' : ℕ) (kinds : List ℕ) (table : List RuleWord) → regions ≤ regions' → Grows regions kinds table regions' kinds table
+region_more regions regions' kinds table more = record { more_regions = more; more_kinds = λ code t. t; more_words = λ part t. (t, refl) }
 
 pub kind_more : (regions : ℕ) (kinds : List ℕ) (code : ℕ) (table : List RuleWord) → Grows regions kinds table regions (kinds ++ code ∷ []) table
 kind_more regions kinds code table = record { more_regions = omega arith; more_kinds = λ c t. any_append (eqb c) kinds (code ∷ []) t; more_words = λ part t. (t, refl) }
@@ -90,12 +90,13 @@ module _ {regions : ℕ} {kinds : List ℕ} {table : List RuleWord} {regions' : 
   pub places_grow : (xs : List Place) → T (every (place_sound regions kinds table) xs) → T (every (place_sound regions' kinds' table') xs)
   places_grow = every_weaker _ _ place_grows
 
-  goal_cases : (unset : Bool) (part : Part) → T (cond unset (inside table part) (rule_sound kinds table part)) → T (cond unset (inside table' part) (rule_sound kinds' table' part))
-  goal_cases true part t = (g.more_words part t).0
-  goal_cases false part t = rule_grows part t
+  pub goal_grows : (goal : Option Part) → T (goal_sound kinds table goal) → T (goal_sound kinds' table' goal)
+  goal_grows None t = tt
+  goal_grows (Some part) t = rule_grows part t
 
-  pub goal_grows : (part : Part) → T (goal_sound kinds table part) → T (goal_sound kinds' table' part)
-  goal_grows part t = goal_cases (eqb part.len 0) part t
+  pub goal_same : (goal : Option Part) → T (goal_sound kinds table goal) → goal_words table' goal ≡ goal_words table goal
+  goal_same None t = refl
+  goal_same (Some part) t = (g.more_words part (and_both (inside table part) _ t).0).1
 
   pub gates_same : (xs : List Gate) → T (every (gate_sound regions kinds table) xs) → map (gate_of table') xs ≡ map (gate_of table) xs
   gates_same = map_same (gate_sound regions kinds table) (gate_of table') (gate_of table) (λ (x : Gate) t.
@@ -106,11 +107,3 @@ module _ {regions : ℕ} {kinds : List ℕ} {table : List RuleWord} {regions' : 
   places_same = map_same (place_sound regions kinds table) (place_of table') (place_of table) (λ (x : Place) t.
       let r = (and_both (ltb x.region regions) _ t).1 in
       ap (λ (rule : List RuleWord). record { region = x.region; rule = rule }) (g.more_words x.rule (and_both (inside table x.rule) _ r).0).1)
-
--- a goal lies inside the table, set or not
-goal_inside_cases : (unset : Bool) (kinds : List ℕ) (table : List RuleWord) (part : Part) → T (cond unset (inside table part) (rule_sound kinds table part)) → T (inside table part)
-goal_inside_cases true kinds table part t = t
-goal_inside_cases false kinds table part t = (and_both (inside table part) _ t).0
-
-pub goal_inside : (kinds : List ℕ) (table : List RuleWord) (part : Part) → T (goal_sound kinds table part) → T (inside table part)
-goal_inside kinds table part t = goal_inside_cases (eqb part.len 0) kinds table part t

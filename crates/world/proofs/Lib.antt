@@ -1,4 +1,3 @@
-pub mod Checking
 pub mod Growing
 pub mod Chains
 pub mod Known
@@ -6,5 +5,4 @@ pub mod Tables
 pub mod Making
 pub mod Adding
 pub mod Counting
-pub mod Blank
 pub mod Finished

@@ -11,9 +11,13 @@ use Rattle.world.specs.declared.draft.Draft.{Draft}
 use Rattle.world.specs.declared.world.World.{World}
 use Rattle.world.specs.Rows.{words, gate_of, place_of, atlas, near_at, earlier_at, last_leaving}
 
+-- how many regions a draft has: as many as it keeps a last gate for
+abbrev pub regions_of : Draft → ℕ
+regions_of d = length (listed d.latest)
+
 -- the world that a draft stands for; its goal has no words until it is set
 unfoldable pub draft_of : Draft → Atlas
-draft_of d = atlas d.regions (listed d.kinds) (listed d.gates) (listed d.places) (listed d.words) (listed d.pool) (listed d.stock) d.goal
+draft_of d = atlas (regions_of d) (listed d.kinds) (listed d.gates) (listed d.places) (listed d.words) (listed d.pool) (listed d.stock) d.goal
 
 -- the world that a record stands for
 unfoldable pub world_of : World → Atlas

@@ -9,7 +9,7 @@ mod table;
 mod world;
 
 pub use draft::Draft;
-pub use refusal::BuildRefusal;
+pub use refusal::{BuildRefusal, Incomplete};
 pub use rows::{Gate, Part, Place};
 pub use rules::{is_formed, weigh};
 pub use world::World;

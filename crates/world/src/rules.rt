@@ -1,6 +1,6 @@
 // Whether a rule is well formed.
 ghost use Rattle.std.specs.Prelude.{◌≡◌};
-ghost use Rattle.model.specs.Rules.{weigh as weigh_word, formed};
+ghost use Rattle.model.specs.Rules.{weigh as weigh_word, weighed, formed};
 
 use model::RuleWord;
 
@@ -9,23 +9,26 @@ pub fn weigh(waiting: u8, word: RuleWord) -> Option<u8>
     ensures { result ≡ weigh_word waiting word }
 {
     match word {
-        RuleWord::Free => if waiting < 8 { Some(waiting + 1) } else { None },
-        RuleWord::Need { code: _, amount: _ } => if waiting < 8 { Some(waiting + 1) } else { None },
-        RuleWord::And => if waiting > 1 { Some(waiting - 1) } else { None },
-        RuleWord::Or => if waiting > 1 { Some(waiting - 1) } else { None },
+        RuleWord::Free | RuleWord::Need { .. } => (waiting < 8).then(|| waiting + 1),
+        RuleWord::And | RuleWord::Or => (waiting > 1).then(|| waiting - 1),
     }
+}
+
+// How many answers wait at the end; none where a word finds too many or too few.
+fn weigh_all(rule: &[RuleWord]) -> Option<u8>
+    ensures { result ≡ weighed 0 rule.now }
+{
+    // `try_fold` was tried, and the goal that the answer is `weighed` did not close
+    let mut waiting = 0;
+    for word in rule {
+        waiting = weigh(waiting, *word)?;
+    }
+    Some(waiting)
 }
 
 // Whether every word finds what it needs, and one answer is left.
 pub fn is_formed(rule: &[RuleWord]) -> bool
     ensures { result ≡ formed rule.now }
 {
-    let mut waiting = 0;
-    for word in rule {
-        let Some(after) = weigh(waiting, *word) else {
-            return false;
-        };
-        waiting = after;
-    }
-    waiting == 1
+    weigh_all(rule) == Some(1)
 }

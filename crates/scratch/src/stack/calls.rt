@@ -6,6 +6,7 @@ use super::Stack;
 
 impl<'a, T: Copy> Stack<'a, T> {
     // An empty stack, whatever the cells held.
+    #[tactic(auto, unfolding(crate::specs::Held::held, crate::specs::Held::room))]
     pub fn new(cells: &'a mut [T]) -> Stack<'a, T>
         ensures held { held result ≡ [] }
         ensures room { room result ≡ length cells.old }
@@ -31,10 +32,7 @@ impl<'a, T: Copy> Stack<'a, T> {
         ensures cases { MatchOption result (Empty self.old self.new) (Taken self.old self.new) }
         ensures room { room self.new ≡ room self.old }
     {
-        if self.len == 0 {
-            return None;
-        }
-        self.len -= 1;
+        self.len = self.len.checked_sub(1)?;
         Some(self.cells[self.len])
     }
 }

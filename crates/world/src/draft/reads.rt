@@ -1,7 +1,8 @@
 // Reading a draft's tables.
-ghost use Rattle.std.specs.Prelude.{◌≡◌, ℕ, ◌<◌, ◌≤◌, cond, length, slice_index};
+ghost use Rattle.std.specs.Prelude.{◌≡◌, ℕ, ◌<◌, ◌≤◌, cond, length, slice_index_or};
 ghost use Rattle.world.specs.Listed.{listed};
 ghost use Rattle.world.specs.Rows.{words};
+ghost use Rattle.world.specs.Worlds.{regions_of};
 
 use super::Draft;
 use crate::rows::{Gate, Part, Place};
@@ -9,9 +10,9 @@ use model::RuleWord;
 
 impl Draft {
     pub fn region_count(&self) -> u8
-        ensures { result ≡ self.now.regions }
+        ensures { result ≡ regions_of self.now }
     {
-        self.regions
+        self.latest.len() as u8
     }
 
     // The codes of the kinds, in order.
@@ -27,11 +28,11 @@ impl Draft {
         self.gates.as_slice()
     }
 
-    // The number, counted from 1, of the last gate that leaves a region; 0 where there is none.
-    pub fn last_gate(&self, region: usize) -> u16
-        ensures { result ≡ slice_index (listed self.now.latest) region }
+    // The index of the last gate that leaves a region.
+    pub fn last_gate(&self, region: usize) -> Option<u16>
+        ensures { result ≡ slice_index_or (listed self.now.latest) region None }
     {
-        self.latest.get_or(region, 0)
+        self.latest.get_or(region, None)
     }
 
     pub fn places(&self) -> &[Place]
@@ -54,7 +55,8 @@ impl Draft {
         self.stock.as_slice()
     }
 
-    pub fn goal(&self) -> Part
+    // The rule of the goal, once it is set.
+    pub fn goal(&self) -> Option<Part>
         ensures { result ≡ self.now.goal }
     {
         self.goal
@@ -70,11 +72,9 @@ impl Draft {
     pub fn rule(&self, part: Part) -> &[RuleWord]
         ensures { result.now ≡ words (listed self.now.words) part }
     {
-        let start = part.start as usize;
-        let len = part.len as usize;
-        if start + len > self.words.len() {
-            return &[];
-        }
-        &self.words.as_slice()[start..start + len]
+        let start = usize::from(part.start);
+        let len = usize::from(part.len);
+        let words = self.words.as_slice().get(start..start + len);
+        words.unwrap_or(&[])
     }
 }

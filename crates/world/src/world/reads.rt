@@ -1,4 +1,5 @@
-// Reading a world's tables.
+// Reading a world's tables. Its readers promise what holds of every world and not of every draft, so they are no copies.
+// A slice's length is told with it, since no type of a slice has a bound.
 ghost use Rattle.std.specs.Prelude.{◌≡◌, ℕ, ◌<◌, ◌≤◌, T, map, length};
 ghost use Rattle.std.specs.List.{AllByRecursion};
 ghost use Rattle.model.specs.Proper.{proper, words_in};
@@ -10,6 +11,7 @@ use super::World;
 use crate::rows::{Gate, Part, Place};
 use model::RuleWord;
 
+#[tactic(auto, unfolding(crate::specs::Worlds::draft_of, crate::specs::Worlds::world_of, crate::specs::Worlds::rule_at, crate::specs::Worlds::gateway, crate::specs::Worlds::gate_rows, crate::specs::Worlds::spot))]
 impl World {
     // Every world that exists keeps the limits and names only what it has.
     pub fn region_count(&self) -> u8
@@ -39,10 +41,10 @@ impl World {
         self.made.gates()
     }
 
-    // The number, counted from 1, of the last gate that leaves a region; 0 where there is none.
-    pub fn last_gate(&self, region: usize) -> u16
+    // The index of the last gate that leaves a region.
+    pub fn last_gate(&self, region: usize) -> Option<u16>
         ensures known { region < (world_of self.now).regions → result ≡ last_leaving (gate_rows self.now) region (length (gate_rows self.now)) }
-        ensures unknown { (world_of self.now).regions ≤ region → result ≡ 0 }
+        ensures unknown { (world_of self.now).regions ≤ region → result ≡ None }
     {
         self.made.last_gate(region)
     }
@@ -77,7 +79,7 @@ impl World {
         ensures words { rule_at self.now result ≡ (world_of self.now).goal }
         ensures well_formed { T (formed (rule_at self.now result)) }
     {
-        self.made.goal()
+        self.made.goal().unwrap()
     }
 
     // The words of a rule.

@@ -1,15 +1,16 @@
-use Rattle.std.proofs.Common.{sym, ◌∙◌}
-use Rattle.model.specs.declared.rule_word.RuleWord.TheVariants.{Free}
+use Rattle.std.proofs.Common.{◌&&◌, refl, ◌∙◌, rules, tests}
+use Rattle.std.specs.List.{list_all}
+use Rattle.std.proofs.lemmas.Iterator.{YieldsList-from_slice}
+use Rattle.std.proofs.lemmas.Iterator.Search.{all_from_yields_List}
+use Rattle.std.proofs.lemmas.List.Recursion.{same_from_clauses}
+use Rattle.model.specs.Marks.{every}
 use Rattle.model.specs.Proper.{names_kinds}
 use Rattle.world.specs.Listed.{listed}
-use Rattle.world.proofs.Checking.{every_next, every_not, every_end}
 use Rattle.world.proofs.draft.Draft.has_kinds_of.Goals as goal
 
-pub loop-word-preserved : goal.loop-word-preserved
-loop-word-preserved c = every_next (names_kinds (listed c.args.self.now.kinds)) c.args.rule.now c.loop-word.word-index Free c.loop-word-test.true (sym c.has_kind_of.ensures ∙ c.if-not-has_kind_of.false) ∙ c.loop-word.invariant
-
-pub returns-then-not-has_kind_of : goal.returns-then-not-has_kind_of
-returns-then-not-has_kind_of c = every_not (names_kinds (listed c.args.self.now.kinds)) c.args.rule.now c.loop-word.word-index Free c.loop-word-test.true (sym c.has_kind_of.ensures ∙ c.if-not-has_kind_of.true) ∙ c.loop-word.invariant
-
 pub returns : goal.returns
-returns c = every_end (names_kinds (listed c.args.self.now.kinds)) c.args.rule.now c.loop-word.word-index c.loop-word-test.false ∙ c.loop-word.invariant
+returns c =
+    let kinds = listed c.args.self.now.kinds in
+    let rule = c.args.rule.now in
+    all_from_yields_List (names_kinds kinds) _ _ c.all.result c.all.ensures.ran (YieldsList-from_slice rule cc) (λ x b q k. search (rules, tests))
+    ∙ same_from_clauses (list_all (names_kinds kinds)) (every (names_kinds kinds)) (λ x rest. names_kinds kinds x && rest) refl (λ _ _. refl) (λ _ _. refl) rule

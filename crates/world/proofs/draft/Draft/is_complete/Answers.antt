@@ -1,15 +1,10 @@
-use Rattle.std.proofs.Common.{Bool, not, ◌&&◌, eqb, sym, ap, ◌∙◌}
-use Rattle.std.proofs.lemmas.Bool.{eq-eqb, ne_eqb}
+use Rattle.std.proofs.Common.{Bool, not, ◌&&◌, is_some, sym, ap, ◌∙◌}
+use Rattle.std.proofs.lemmas.Bool.{ne_eqb}
+use Rattle.world.specs.Worlds.{regions_of}
 use Rattle.world.proofs.Finished.{told_complete}
 use Rattle.world.proofs.draft.Draft.is_complete.Goals as goal
 
-pub returns-then-self-ne0 : goal.returns-then-self-ne0
-returns-then-self-ne0 c =
+pub returns-then-region_count-ne0 : goal.returns-then-region_count-ne0
+returns-then-region_count-ne0 c =
     let d = c.args.self.now in
-    sym (ap (λ (b : Bool). not b && not (eqb d.goal.len 0)) (ne_eqb d.regions 0 c.if-self-ne0.true)) ∙ told_complete d
-
-pub returns-else-self-ne0 : goal.returns-else-self-ne0
-returns-else-self-ne0 c =
-    let d = c.args.self.now in
-    let none = eq-eqb d.regions 0 c.if-self-ne0.false in
-    ap not none ∙ sym (ap (λ (b : Bool). not b && not (eqb d.goal.len 0)) none) ∙ told_complete d
+    c.is_some.ensures ∙ sym (ap (λ (b : Bool). not b && is_some d.goal) (ne_eqb (regions_of d) 0 (λ e. c.if-region_count-ne0.true (c.region_count.ensures ∙ e)))) ∙ told_complete d
