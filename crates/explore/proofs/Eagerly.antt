@@ -4,9 +4,7 @@ use Rattle.std.proofs.lemmas.List.{get_or_default}
 use Rattle.std.proofs.lemmas.Bool.{both_ways}
 use Rattle.std.proofs.ByRecursion.{All-weaker}
 use Rattle.inventory.specs.Meaning.{Meaning, Lawful, held}
-use Rattle.scratch.specs.declared.marks.Marks.{Marks}
-use Rattle.scratch.specs.Bytes.{unmarked}
-use Rattle.scratch.specs.Marks.{regions, places}
+use Rattle.scratch.specs.Marks.{region_marks, place_marks}
 use Rattle.model.specs.Marks.{at, In, Sub, count}
 use Rattle.model.specs.Rules.{reads}
 use Rattle.model.specs.Proper.{Proper}
@@ -82,8 +80,8 @@ module _ (m : Meaning) (l : Lawful m) (w : Atlas) where
       }
 
       -- regions spread with the value by now
-      pub ahead_spread : Proper w → (r' s' : List Bool) → Spread m w u r r' → s' ≡ s → Ahead m w p v r' s' u
-      ahead_spread proper r' s' a e = subst (λ x. Ahead m w p v r' x u) (sym e) (record {
+      pub ahead_spread : Proper w → (r' : List Bool) → Spread m w u r r' → Ahead m w p v r' s u
+      ahead_spread proper r' a = record {
         starts = a.keeps 0 o.starts;
         valued = o.valued;
         regions_sound = a.sound (reached m w final)
@@ -91,7 +89,7 @@ module _ (m : Meaning) (l : Lawful m) (w : Atlas) where
             (λ g c near met. c near (rule_grows m l u final below_final g.rule met)) w.gates (reach_law m l w final proper).closed)
             o.regions_sound;
         places_sound = o.places_sound;
-      })
+      }
 
       -- nothing is left to open
       pub ahead_all : Proper w → length s ≡ length w.places → Closed m w u r → Looked m w u r s (length w.places) → s ≡ gathered m w p v
@@ -125,9 +123,6 @@ module _ (m : Meaning) (w : Atlas) (u₀ u : m.Value) (r s : List Bool) (k : ℕ
         f (subst (λ (y : Spot). In r y.region) same near) (subst (λ (y : Spot). T (reads (held m u) y.rule)) same met)),
   )
 
-pub quiet_none : (m : Meaning) (w : Atlas) (u : m.Value) (r s : List Bool) → Quiet m w false u u r s 0
-quiet_none m w u r s = (refl, λ j l. (let z : ⊥ = omega arith in absurd z))
-
 pub grew_more : (b : Bool) (s₀ s : List Bool) (k : ℕ) → Grew b s₀ s → k < length s → at s k ≡ false → count s₀ < count (set s k true)
 grew_more true s₀ s k g h e = let one = count_set s k h e in omega arith
 grew_more false s₀ s k g h e = let one = count_set s k h e in subst (λ x. count x < count (set s k true)) g (omega arith)
@@ -139,12 +134,12 @@ none_lies (o ∷ p) zero = refl
 none_lies (None ∷ p) (suc n) = none_lies p n
 none_lies (Some i ∷ p) (suc n) = none_lies p n
 
-pub ahead_none : (m : Meaning) (l : Lawful m) (w : Atlas) (p : Placement) (v : m.Value) → Proper w → (marks : Marks) → regions marks ≡ set (unmarked 64) 0 true → places marks ≡ unmarked 256 → Ahead m w p v (regions marks) (places_in w marks) v
-unfolding unmarked
-ahead_none m l w p v proper marks er ep =
+pub ahead_none : (m : Meaning) (l : Lawful m) (w : Atlas) (p : Placement) (v : m.Value) → Proper w → (regions places : List ℕ) → region_marks regions ≡ set (replicate 64 false) 0 true → place_marks places ≡ replicate 256 false
+    → Ahead m w p v (region_marks regions) (places_in w places) v
+ahead_none m l w p v proper regions places er ep =
     let zeros : List Bool = replicate 64 false in
     let t : List Bool = reached m w (in_the_end m w p v) in
-    let es = no_places_in w marks proper ep in
+    let es = no_places_in w places proper ep in
     record {
       starts = subst (λ r. In r 0) (sym er) tt;
       valued = sym (ap (with_items m w v) (ap (lying p) es ∙ none_lies p (length w.places)));

@@ -1,6 +1,6 @@
--- One item more of the pool.
-use Rattle.std.proofs.Common.{◌≡◌, ℕ, suc, ◌+◌, ◌-◌, ◌<◌, ◌≤◌, Bool, true, ◌&&◌, eqb, List, length, ap, ◌∙◌, arith}
-use Rattle.std.specs.List.{range_with_len}
+-- Whether each item of the pool lies in a set of places.
+use Rattle.std.proofs.Common.{◌≡◌, ℕ, Bool, ◌&&◌, eqb, List, [], ◌∷◌, length, refl, ap, ◌∙◌}
+use Rattle.std.specs.List.{list_all, range_with_len}
 use Rattle.inventory.specs.Meaning.{Meaning}
 use Rattle.model.specs.Marks.{any, every}
 use Rattle.model.specs.Worlds.{World as Atlas, stocked}
@@ -10,15 +10,12 @@ use Rattle.model.specs.Placements.{Placement, lying, gathered, whole}
 abbrev pub there : Placement → List Bool → ℕ → Bool
 there p s i = any (eqb i) (lying p s)
 
-module _ (f : ℕ → Bool) (n i : ℕ) where
-  pub every_step : i < n → every f (range_with_len i (n - i)) ≡ (f i && every f (range_with_len (i + 1) (n - (i + 1))))
-  every_step h = let one : n - i ≡ suc (n - (i + 1)) = omega arith in ap (λ k. every f (range_with_len i k)) one
+every_is : (f : ℕ → Bool) (xs : List ℕ) → list_all f xs ≡ every f xs
+every_is f [] = refl
+every_is f (x ∷ xs) = ap (λ b. f x && b) (every_is f xs)
 
-  pub every_end : n ≤ i → every f (range_with_len i (n - i)) ≡ true
-  every_end h = let none : n - i ≡ 0 = omega arith in ap (λ k. every f (range_with_len i k)) none
-
-pub whole_is : (m : Meaning) (w : Atlas) (p : Placement) (v : m.Value) (s : List Bool) (pool : List ℕ) → v ≡ stocked m w → s ≡ gathered m w p v → pool ≡ w.pool → every (there p s) (range_with_len 0 (length pool)) ≡ whole m w p
+pub whole_is : (m : Meaning) (w : Atlas) (p : Placement) (v : m.Value) (s : List Bool) (pool : List ℕ) → v ≡ stocked m w → s ≡ gathered m w p v → pool ≡ w.pool → list_all (there p s) (range_with_len 0 (length pool)) ≡ whole m w p
 unfolding whole
 whole_is m w p v s pool start all same =
-    ap (λ l. every (there p s) (range_with_len 0 (length l))) same
+    every_is (there p s) _ ∙ ap (λ l. every (there p s) (range_with_len 0 (length l))) same
     ∙ ap (λ t. every (there p t) (range_with_len 0 (length w.pool))) (all ∙ ap (gathered m w p) start)

@@ -3,9 +3,9 @@ use Rattle.std.proofs.Common.{◌≡◌, ℕ, ◌+◌, ◌<◌, ◌≤◌, Bool,
 use Rattle.std.specs.List.{AllByRecursion}
 use Rattle.std.proofs.lemmas.Bool.{and_parts, not-true}
 use Rattle.std.proofs.ByRecursion.{All-get_or}
+use Rattle.std.proofs.lemmas.Float.{T_from_true}
 use Rattle.inventory.specs.Meaning.{Meaning, held}
-use Rattle.scratch.specs.declared.marks.Marks.{Marks}
-use Rattle.scratch.specs.Marks.{regions, places}
+use Rattle.scratch.specs.Marks.{region_marks, place_marks}
 use Rattle.model.specs.Marks.{at, In, Sub, count}
 use Rattle.model.specs.Rules.{reads}
 use Rattle.model.specs.Worlds.{World as Atlas, Place as Spot, reached, opens}
@@ -16,7 +16,7 @@ use Rattle.world.specs.declared.world.World.{World}
 use Rattle.world.specs.Worlds.{world_of, spot, rule_at, KnownPlace}
 use Rattle.explore.specs.Marked.{regions_in, places_in}
 use Rattle.explore.specs.Gathering.{newly, Grew, Opening}
-use Rattle.explore.proofs.Known.{true_T, no_place, row_found, as_many}
+use Rattle.explore.proofs.Known.{no_place, row_found, as_many}
 use Rattle.explore.proofs.Counting.{count_set, in_set, in_set_same, set_inside}
 use Rattle.explore.proofs.Marked.{at_regions_in, at_places_in}
 
@@ -26,10 +26,10 @@ pub open_row : (m : Meaning) (w : Atlas) (v : m.Value) (k : ℕ) (q : Spot) → 
 open_row m w v k q h e = ap (λ (x : Spot). at (reached m w v) x.region && reads (held m v) x.rule) e ∙ sym (open_at m w v k q h)
 
 -- the same by the marks
-pub open_read : (m : Meaning) (w : Atlas) (v : m.Value) (marks : Marks) (k : ℕ) (q : Spot) → k < length w.places → q ≡ get_or w.places k q → q.region < w.regions
-    → regions_in w marks ≡ reached m w v → (at (regions marks) q.region && reads (held m v) q.rule) ≡ at (opens m w v) k
-open_read m w v marks k q h e known marked =
-    ap (λ x. x && reads (held m v) q.rule) (sym (at_regions_in w marks q.region known) ∙ ap (λ s. at s q.region) marked) ∙ open_row m w v k q h e
+pub open_read : (m : Meaning) (w : Atlas) (v : m.Value) (r : List ℕ) (k : ℕ) (q : Spot) → k < length w.places → q ≡ get_or w.places k q → q.region < w.regions
+    → regions_in w r ≡ reached m w v → (at (region_marks r) q.region && reads (held m v) q.rule) ≡ at (opens m w v) k
+open_read m w v r k q h e known marked =
+    ap (λ x. x && reads (held m v) q.rule) (sym (at_regions_in w r q.region known) ∙ ap (λ s. at s q.region) marked) ∙ open_row m w v k q h e
 
 -- the place of row k
 abbrev pub row_place : World → List Place → ℕ → Spot
@@ -43,18 +43,17 @@ module _ (world : World) (rows : List Place) (same : map (spot world) rows ≡ (
   place_found = row_found (spot world) rows (world_of world).places k no_place same h
 
   -- what the code reads of it
-  module _ (m : Meaning) (v : m.Value) (marks : Marks) (b : Bool) (e : b ≡ newly (held m v) k (get_or rows k no_place).region (rule_at world (get_or rows k no_place).rule) (regions marks) (places marks)) where
-    pub read_marks : (r : List Bool) → regions marks ≡ r → b ≡ (not (at (places_in (world_of world) marks) k) && (at r (row_place world rows k).region && reads (held m v) (row_place world rows k).rule))
+  module _ (m : Meaning) (v : m.Value) (r p : List ℕ) (b : Bool) (e : b ≡ newly (held m v) k (get_or rows k no_place).region (rule_at world (get_or rows k no_place).rule) (region_marks r) (place_marks p)) where
+    pub read_marks : b ≡ (not (at (places_in (world_of world) p) k) && (at (region_marks r) (row_place world rows k).region && reads (held m v) (row_place world rows k).rule))
     unfolding spot rule_at
-    read_marks r is =
-        e ∙ ap (λ x. not x && (at (regions marks) (row_place world rows k).region && reads (held m v) (row_place world rows k).rule)) (sym (at_places_in (world_of world) marks k is_place))
-        ∙ ap (λ x. not (at (places_in (world_of world) marks) k) && (at x (row_place world rows k).region && reads (held m v) (row_place world rows k).rule)) is
+    read_marks =
+        e ∙ ap (λ x. not x && (at (region_marks r) (row_place world rows k).region && reads (held m v) (row_place world rows k).rule)) (sym (at_places_in (world_of world) p k is_place))
 
-    pub read_open : AllByRecursion (KnownPlace world) rows → regions_in (world_of world) marks ≡ reached m (world_of world) v → b ≡ (not (at (places_in (world_of world) marks) k) && at (opens m (world_of world) v) k)
+    pub read_open : AllByRecursion (KnownPlace world) rows → regions_in (world_of world) r ≡ reached m (world_of world) v → b ≡ (not (at (places_in (world_of world) p) k) && at (opens m (world_of world) v) k)
     unfolding spot
     read_open known reached =
-        read_marks (regions marks) refl
-        ∙ ap (λ x. not (at (places_in (world_of world) marks) k) && x) (open_read m (world_of world) v marks k (row_place world rows k) is_place place_found (All-get_or (KnownPlace world) rows k no_place h known).region_known reached)
+        read_marks
+        ∙ ap (λ x. not (at (places_in (world_of world) p) k) && x) (open_read m (world_of world) v r k (row_place world rows k) is_place place_found (All-get_or (KnownPlace world) rows k no_place h known).region_known reached)
 
 -- a place that does not open, and one that does
 pub not_newly : (b x : Bool) → (not b && x) ≡ false → T x → T b
@@ -78,7 +77,7 @@ module _ (o s₀ : List Bool) where
 
     pub opening_more : at s k ≡ false → at o k ≡ true → Opening o s₀ (set s k true) (k + 1) true
     opening_more e f =
-        let here : In o k = true_T (at o k) f in
+        let here : In o k = T_from_true (at o k) f in
         let in-o : k < length o = in_length o k here in
         let size = old.size in
         let within : k < length s = omega arith in

@@ -5,6 +5,7 @@ use Rattle.std.specs.List.{AllByRecursion}
 use Rattle.std.proofs.lemmas.Bool.{and_parts, not-true, cases_eq}
 use Rattle.std.proofs.lemmas.List.{get_or-take, length-take-le}
 use Rattle.std.proofs.ByRecursion.{All-get_or}
+use Rattle.std.proofs.lemmas.Float.{T_from_true}
 use Rattle.inventory.specs.Meaning.{Meaning, held}
 use Rattle.model.specs.Marks.{at, In, Sub, any}
 use Rattle.model.specs.Rules.{reads}
@@ -13,7 +14,6 @@ use Rattle.model.specs.Proper.{Proper, ProperGate}
 use Rattle.model.specs.Laws.{Closed, ReachLaw}
 use Rattle.model.proofs.Sets.{or_left, or_right, or_cases, or_map, false_if, and_from, yes_or_no}
 use Rattle.explore.specs.Reaching.{leads, Settled, Left, Widens, Underway, Spread}
-use Rattle.explore.proofs.Known.{true_T}
 use Rattle.explore.proofs.Counting.{count_set, in_set, in_set_same, in_set_cases, set_inside, none_in}
 
 -- one more that waits, among others
@@ -80,7 +80,7 @@ module _ (m : Meaning) (w : Atlas) (v : m.Value) where
           size = length-set s f true;
           keeps = in_set s f;
           sound = λ t c a. set_inside s t f a
-              (subst (λ (x : Gateway). In t x.near → T (reads (held m v) x.rule) → In t x.far) (sym found) (All-get_or _ w.gates i g lt c) (a g.near (true_T _ p.0)) (true_T _ q.1));
+              (subst (λ (x : Gateway). In t x.near → T (reads (held m v) x.rule) → In t x.far) (sym found) (All-get_or _ w.gates i g lt c) (a g.near (T_from_true _ p.0)) (T_from_true _ q.1));
           waits = omega arith;
           more = omega arith;
           settled = λ others x. settled_more others h s f x;
@@ -107,9 +107,6 @@ module _ (m : Meaning) (w : Atlas) (v : m.Value) where
   widened : (x : ℕ) (s : List Bool) (h : List ℕ) (s' : List Bool) (h' : List ℕ) → Widens m w v s h s' h' → (gates : List Gateway) → AllByRecursion (Settled m v (x ∷ h) s) gates → AllByRecursion (Settled m v (x ∷ h') s') gates
   widened x s h s' h' a [] b = tt
   widened x s h s' h' a (g ∷ gates) b = (a.settled (x ∷ []) g b.0, widened x s h s' h' a gates b.1)
-
-  pub underway_start : (s s₁ : List Bool) (h₁ : List ℕ) → Widens m w v s [] s₁ h₁ → AllByRecursion (Settled m v h₁ s₁) w.gates → Underway m w v s₁ s₁ h₁
-  underway_start s s₁ h₁ a b = record { keeps = λ k t. t; sound = λ t c i. i; space = (let new = a.waits in omega arith); settled = b }
 
   pub underway_turn : (s₀ s : List Bool) (x : ℕ) (h : List ℕ) (s' : List Bool) (h' : List ℕ) → Underway m w v s₀ s (x ∷ h) → Widens m w v s h s' h' → Left m w v x h' s' → Underway m w v s₀ s' h'
   underway_turn s₀ s x h s' h' u a b =

@@ -1,5 +1,5 @@
 -- Places that open, and what is joined on with them.
-use Rattle.std.specs.Prelude.{◌≡◌, ℕ, ◌<◌, Bool, true, false, not, ◌&&◌, T, List, length, Some, None, Option, ◌==◌, slice_index, slice_index_or}
+use Rattle.std.specs.Prelude.{◌≡◌, ℕ, ◌<◌, Bool, true, false, not, ◌&&◌, T, List, length, Some, None, Option, slice_index, slice_index_or}
 use Rattle.inventory.specs.Meaning.{Meaning, held}
 use Rattle.model.specs.declared.rule_word.RuleWord.{RuleWord}
 use Rattle.model.specs.Marks.{at, In, Sub, count}
@@ -11,11 +11,6 @@ use Rattle.model.specs.Placements.{Placement, lying, gathered}
 abbrev pub with_item : (m : Meaning) → Atlas → m.Value → Option ℕ → m.Value
 with_item m w v None = v
 with_item m w v (Some i) = m.join v (m.grain (slice_index w.pool i))
-
--- whether what lies at a place is the item
-abbrev pub is_item : ℕ → Option ℕ → Bool
-is_item i None = false
-is_item i (Some j) = i == j
 
 -- a value with all that is gathered from it joined on
 abbrev pub in_the_end : (m : Meaning) (w : Atlas) → Placement → m.Value → m.Value

@@ -2,5 +2,4 @@ pub mod Meeting
 pub mod Marked
 pub mod Reaching
 pub mod Gathering
-pub mod Refusal
 pub mod Asking

@@ -2,22 +2,21 @@
 #![tactic(auto)]
 
 mod asks;
-mod few_marks;
 mod gather;
 mod items;
+mod marks;
 mod places;
+mod player;
 mod reach;
 mod rules;
 mod spheres;
-mod values;
+mod waiting;
 mod whole;
 
-pub use asks::{ask_finishable, ask_gathered, ask_open, ask_sphere, ask_whole, is_marked};
-pub use few_marks::FewMarks;
-pub use gather::mark_gathered;
-pub use places::{mark_finishable, mark_open};
-pub use reach::mark_reached;
-pub use rules::{goal_met, meets_rule};
+pub use asks::{ask_finishable, ask_sphere, ask_whole};
+pub use marks::is_marked;
+pub use places::mark_finishable;
+pub use player::Player;
+pub use scratch::FewMarks;
 pub use spheres::sphere;
-pub use values::{add_pool, stock_value};
 pub use whole::is_whole;

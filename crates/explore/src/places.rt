@@ -1,72 +1,66 @@
-// Which places are open with a value.
+// Which places are open with what a player holds.
 ghost use Rattle.std.specs.Prelude.{◌≡◌};
 ghost use Rattle.inventory.specs.Meaning.{held};
-ghost use Rattle.scratch.specs.Marks.{regions, places, SameLoan};
+ghost use Rattle.scratch.specs.Marks.{region_marks, place_marks};
 ghost use Rattle.model.specs.Marks.{Sub};
 ghost use Rattle.model.specs.Worlds.{reached, opens, finishable};
 ghost use Rattle.world.specs.Worlds.{world_of, rule_at, KnownPlace};
 ghost use Rattle.explore.specs.Marked.{regions_in, places_in};
 ghost use Rattle.explore.specs.Gathering.{newly, Grew};
 
-use crate::reach::mark_reached;
-use crate::rules::meets_rule;
-use crate::values::{add_pool, stock_value};
+use crate::player::Player;
 use inventory::Inventory;
-use scratch::Marks;
+use scratch::{Marks, Places, Regions};
 use world::{Place, World};
 
-// Whether a place that is not marked lies in a marked region and has a rule that the value meets.
-pub(crate) fn opens_now<I: Inventory>(
-    world: &World,
-    k: usize,
-    place: Place,
-    value: &I,
-    marks: &Marks,
-) -> bool
-    requires { KnownPlace world.now place }
-    ensures { result ≡ newly (held I.Inventory.meaning (I.Inventory.value value.now)) k place.region (rule_at world.now place.rule) (regions marks.now) (places marks.now) }
-{
-    let region = place.region as usize;
-    !marks.place(k) && marks.region(region) && meets_rule(world, place.rule, value)
-}
-
-// Marks each place that is open with the value, where the regions reached are marked. Says whether one is new.
-pub(crate) fn open_places<I: Inventory>(world: &World, value: &I, marks: &mut Marks) -> bool
-    requires reached { regions_in (world_of world.now) marks.old ≡ reached I.Inventory.meaning (world_of world.now) (I.Inventory.value value.now) }
-    requires below { Sub (places_in (world_of world.now) marks.old) (opens I.Inventory.meaning (world_of world.now) (I.Inventory.value value.now)) }
-    ensures opens { places_in (world_of world.now) marks.new ≡ opens I.Inventory.meaning (world_of world.now) (I.Inventory.value value.now) }
-    ensures grew { Grew result (places_in (world_of world.now) marks.old) (places_in (world_of world.now) marks.new) }
-    ensures regions { regions marks.new ≡ regions marks.old }
-    ensures loan { SameLoan marks.old marks.new }
-{
-    let mut grew = false;
-    for (k, place) in world.places().iter().enumerate() {
-        if !opens_now(world, k, *place, value, marks) {
-            continue;
-        }
-        marks.mark_place(k);
-        grew = true;
+impl<I: Inventory> Player<'_, I> {
+    // Whether a place that is not marked lies in a marked region and has a rule that is met.
+    pub(crate) fn opens_now(
+        &self,
+        k: usize,
+        place: Place,
+        regions: &Regions,
+        places: &Places,
+    ) -> bool
+        requires { KnownPlace self.now.world.now place }
+        ensures { result ≡ newly (held I.Inventory.meaning (I.Inventory.value self.now.held)) k place.region (rule_at self.now.world.now place.rule) (region_marks regions.now) (place_marks places.now) }
+    {
+        !places.has(k) && regions.has(usize::from(place.region)) && self.meets_rule(place.rule)
     }
-    grew
-}
 
-// Marks the places open with the value, and the regions reached.
-pub fn mark_open<I: Inventory>(world: &World, value: &I, marks: &mut Marks)
-    ensures places { places_in (world_of world.now) marks.new ≡ opens I.Inventory.meaning (world_of world.now) (I.Inventory.value value.now) }
-    ensures regions { regions_in (world_of world.now) marks.new ≡ reached I.Inventory.meaning (world_of world.now) (I.Inventory.value value.now) }
-    ensures loan { SameLoan marks.old marks.new }
-{
-    marks.clear();
-    mark_reached(world, value, marks);
-    let _ = open_places(world, value, marks);
+    // Marks each place that is open, where the regions reached are marked. Says whether one is new.
+    pub(crate) fn open_places(&self, regions: &Regions, places: &mut Places) -> bool
+        requires reached { regions_in (world_of self.now.world.now) regions.now ≡ reached I.Inventory.meaning (world_of self.now.world.now) (I.Inventory.value self.now.held) }
+        requires below { Sub (places_in (world_of self.now.world.now) places.old) (opens I.Inventory.meaning (world_of self.now.world.now) (I.Inventory.value self.now.held)) }
+        ensures opens { places_in (world_of self.now.world.now) places.new ≡ opens I.Inventory.meaning (world_of self.now.world.now) (I.Inventory.value self.now.held) }
+        ensures grew { Grew result (places_in (world_of self.now.world.now) places.old) (places_in (world_of self.now.world.now) places.new) }
+    {
+        let mut grew = false;
+        for (k, place) in self.world.places().iter().enumerate() {
+            if self.opens_now(k, *place, regions, places) {
+                places.mark(k);
+                grew = true;
+            }
+        }
+        grew
+    }
+
+    // Marks the places open, and the regions reached.
+    pub fn mark_open(&self, regions: &mut Regions, places: &mut Places)
+        ensures places { places_in (world_of self.now.world.now) places.new ≡ opens I.Inventory.meaning (world_of self.now.world.now) (I.Inventory.value self.now.held) }
+        ensures regions { regions_in (world_of self.now.world.now) regions.new ≡ reached I.Inventory.meaning (world_of self.now.world.now) (I.Inventory.value self.now.held) }
+    {
+        places.clear();
+        self.mark_reached(regions);
+        let _ = self.open_places(regions, places);
+    }
 }
 
 // Marks the places that are open with the stock and the whole pool.
-pub fn mark_finishable<I: Inventory>(world: &World, marks: &mut Marks)
-    ensures places { places_in (world_of world.now) marks.new ≡ finishable I.Inventory.meaning (world_of world.now) }
-    ensures loan { SameLoan marks.old marks.new }
+pub fn mark_finishable<I: Inventory>(world: &World, regions: &mut Regions, places: &mut Places)
+    ensures { places_in (world_of world.now) places.new ≡ finishable I.Inventory.meaning (world_of world.now) }
 {
-    let mut value: I = stock_value(world);
-    add_pool(world, &mut value);
-    mark_open(world, &value, marks);
+    let mut player = Player::<I>::with_stock(world);
+    player.add_pool();
+    player.mark_open(regions, places);
 }

@@ -1,114 +1,91 @@
-// Which regions are reached with a value.
+// Which regions are reached with what a player holds.
 ghost use Rattle.std.specs.Prelude.{◌≡◌, ◌≤◌, true, [], ◌∷◌, length, if◌then◌else◌, slice_set};
 ghost use Rattle.std.specs.List.{AllByRecursion};
 ghost use Rattle.inventory.specs.Meaning.{held};
-ghost use Rattle.scratch.specs.Held.{held as stacked, room};
-ghost use Rattle.scratch.specs.Marks.{regions, places, SameLoan};
+ghost use Rattle.scratch.specs.Held.{held as stacked};
+ghost use Rattle.scratch.specs.Marks.{region_marks};
 ghost use Rattle.model.specs.Marks.{count};
 ghost use Rattle.model.specs.Worlds.{reached};
 ghost use Rattle.world.specs.Worlds.{world_of, rule_at, KnownGate};
 ghost use Rattle.explore.specs.Marked.{regions_in};
 ghost use Rattle.explore.specs.Reaching.{leads, Settled, Left, Widens, Spread};
 
-use crate::rules::meets_rule;
+use crate::player::Player;
+use crate::waiting::Waiting;
 use inventory::Inventory;
-use scratch::{Marks, Stack};
-use world::{Gate, World};
+use scratch::{Marks, Regions};
+use world::Gate;
 
-// Whether the near region is marked, the far one is not, and the value meets the rule.
-fn leads_on<I: Inventory>(world: &World, gate: Gate, value: &I, marks: &Marks) -> bool
-    requires { KnownGate world.now gate }
-    ensures { result ≡ leads (held I.Inventory.meaning (I.Inventory.value value.now)) gate.near gate.far (rule_at world.now gate.rule) (regions marks.now) }
-{
-    let near = gate.near as usize;
-    let far = gate.far as usize;
-    marks.region(near) && !marks.region(far) && meets_rule(world, gate.rule, value)
-}
-
-// Marks the far region of a gate that leads on, and lets it wait.
-fn cross<I: Inventory>(
-    world: &World,
-    gate: Gate,
-    value: &I,
-    marks: &mut Marks,
-    waiting: &mut Stack<u8>,
-)
-    requires known { KnownGate world.now gate }
-    requires room { room waiting.old ≡ 64 }
-    requires space { length (stacked waiting.old) ≤ count (regions marks.old) }
-    ensures regions { regions marks.new ≡ (if leads (held I.Inventory.meaning (I.Inventory.value value.now)) gate.near gate.far (rule_at world.now gate.rule) (regions marks.old) then slice_set (regions marks.old) gate.far true else regions marks.old) }
-    ensures waits { stacked waiting.new ≡ (if leads (held I.Inventory.meaning (I.Inventory.value value.now)) gate.near gate.far (rule_at world.now gate.rule) (regions marks.old) then gate.far ∷ stacked waiting.old else stacked waiting.old) }
-    ensures room { room waiting.new ≡ 64 }
-    ensures places { places marks.new ≡ places marks.old }
-    ensures loan { SameLoan marks.old marks.new }
-{
-    if leads_on(world, gate, value, marks) {
-        marks.mark_region(gate.far as usize);
-        let _ = waiting.push(gate.far);
+impl<I: Inventory> Player<'_, I> {
+    // Whether the near region is marked, the far one is not, and what is held meets the rule.
+    fn leads_on(&self, gate: Gate, regions: &Regions) -> bool
+        requires { KnownGate self.now.world.now gate }
+        ensures { result ≡ leads (held I.Inventory.meaning (I.Inventory.value self.now.held)) gate.near gate.far (rule_at self.now.world.now gate.rule) (region_marks regions.now) }
+    {
+        regions.has(usize::from(gate.near))
+            && !regions.has(usize::from(gate.far))
+            && self.meets_rule(gate.rule)
     }
-}
 
-// Crosses the gates that leave a region, from the last to the first.
-fn sweep<I: Inventory>(
-    world: &World,
-    near: u8,
-    value: &I,
-    marks: &mut Marks,
-    waiting: &mut Stack<u8>,
-)
-    requires room { room waiting.old ≡ 64 }
-    requires space { length (stacked waiting.old) ≤ count (regions marks.old) }
-    ensures widens { Widens I.Inventory.meaning (world_of world.now) (I.Inventory.value value.now) (regions marks.old) (stacked waiting.old) (regions marks.new) (stacked waiting.new) }
-    ensures left { Left I.Inventory.meaning (world_of world.now) (I.Inventory.value value.now) near (stacked waiting.new) (regions marks.new) }
-    ensures room { room waiting.new ≡ 64 }
-    ensures places { places marks.new ≡ places marks.old }
-    ensures loan { SameLoan marks.old marks.new }
-{
-    let gates = world.gates();
-    let mut number = world.last_gate(near as usize);
-    while number != 0 {
-        let gate = gates[number as usize - 1];
-        cross(world, gate, value, marks, waiting);
-        number = gate.earlier;
+    // Marks the far region of a gate that leads on, and lets it wait. The marks and those that wait are two parameters:
+    // a struct of both would hold references, and each contract would have to say that they still refer to the same.
+    fn cross(&self, gate: Gate, regions: &mut Regions, waiting: &mut Waiting<u8, 64>)
+        requires known { KnownGate self.now.world.now gate }
+        requires space { length (stacked waiting.old.stack) ≤ count (region_marks regions.old) }
+        ensures regions { region_marks regions.new ≡ (if leads (held I.Inventory.meaning (I.Inventory.value self.now.held)) gate.near gate.far (rule_at self.now.world.now gate.rule) (region_marks regions.old) then slice_set (region_marks regions.old) gate.far true else region_marks regions.old) }
+        ensures waits { stacked waiting.new.stack ≡ (if leads (held I.Inventory.meaning (I.Inventory.value self.now.held)) gate.near gate.far (rule_at self.now.world.now gate.rule) (region_marks regions.old) then gate.far ∷ stacked waiting.old.stack else stacked waiting.old.stack) }
+    {
+        if self.leads_on(gate, regions) {
+            regions.mark(usize::from(gate.far));
+            waiting.push(gate.far);
+        }
     }
-}
 
-// Crosses all gates once.
-fn sweep_all<I: Inventory>(world: &World, value: &I, marks: &mut Marks, waiting: &mut Stack<u8>)
-    requires room { room waiting.old ≡ 64 }
-    requires empty { stacked waiting.old ≡ [] }
-    ensures widens { Widens I.Inventory.meaning (world_of world.now) (I.Inventory.value value.now) (regions marks.old) [] (regions marks.new) (stacked waiting.new) }
-    ensures settled { AllByRecursion (Settled I.Inventory.meaning (I.Inventory.value value.now) (stacked waiting.new) (regions marks.new)) (world_of world.now).gates }
-    ensures room { room waiting.new ≡ 64 }
-    ensures places { places marks.new ≡ places marks.old }
-    ensures loan { SameLoan marks.old marks.new }
-{
-    for gate in world.gates() {
-        cross(world, *gate, value, marks, waiting);
+    // Crosses the gates that leave a region, from the last to the first.
+    fn sweep(&self, near: u8, regions: &mut Regions, waiting: &mut Waiting<u8, 64>)
+        requires { length (stacked waiting.old.stack) ≤ count (region_marks regions.old) }
+        ensures widens { Widens I.Inventory.meaning (world_of self.now.world.now) (I.Inventory.value self.now.held) (region_marks regions.old) (stacked waiting.old.stack) (region_marks regions.new) (stacked waiting.new.stack) }
+        ensures left { Left I.Inventory.meaning (world_of self.now.world.now) (I.Inventory.value self.now.held) near (stacked waiting.new.stack) (region_marks regions.new) }
+    {
+        let gates = self.world.gates();
+        let mut next = self.world.last_gate(usize::from(near));
+        // By `while let`: `successors` has no stated end, and that a `for` over it indexes within the gates did not close.
+        while let Some(k) = next {
+            let gate = gates[k as usize];
+            self.cross(gate, regions, waiting);
+            next = gate.earlier;
+        }
     }
-}
 
-// Marks what is reached from the marked regions with the value.
-pub(crate) fn spread<I: Inventory>(world: &World, value: &I, marks: &mut Marks)
-    ensures spreads { Spread I.Inventory.meaning (world_of world.now) (I.Inventory.value value.now) (regions marks.old) (regions marks.new) }
-    ensures places { places marks.new ≡ places marks.old }
-    ensures loan { SameLoan marks.old marks.new }
-{
-    let mut cells = [0u8; 64];
-    let mut waiting = Stack::new(&mut cells);
-    sweep_all(world, value, marks, &mut waiting);
-    while let Some(near) = waiting.pop() {
-        sweep(world, near, value, marks, &mut waiting);
+    // Crosses all gates once.
+    fn sweep_all(&self, regions: &mut Regions, waiting: &mut Waiting<u8, 64>)
+        requires { stacked waiting.old.stack ≡ [] }
+        ensures widens { Widens I.Inventory.meaning (world_of self.now.world.now) (I.Inventory.value self.now.held) (region_marks regions.old) [] (region_marks regions.new) (stacked waiting.new.stack) }
+        ensures settled { AllByRecursion (Settled I.Inventory.meaning (I.Inventory.value self.now.held) (stacked waiting.new.stack) (region_marks regions.new)) (world_of self.now.world.now).gates }
+    {
+        for gate in self.world.gates() {
+            self.cross(*gate, regions, waiting);
+        }
     }
-}
 
-// Marks the regions reached with the value, and no other region.
-pub fn mark_reached<I: Inventory>(world: &World, value: &I, marks: &mut Marks)
-    ensures regions { regions_in (world_of world.now) marks.new ≡ reached I.Inventory.meaning (world_of world.now) (I.Inventory.value value.now) }
-    ensures places { places marks.new ≡ places marks.old }
-    ensures loan { SameLoan marks.old marks.new }
-{
-    marks.clear_regions();
-    marks.mark_region(0);
-    spread(world, value, marks);
+    // Marks what is reached from the marked regions.
+    pub(crate) fn spread(&self, regions: &mut Regions)
+        ensures { Spread I.Inventory.meaning (world_of self.now.world.now) (I.Inventory.value self.now.held) (region_marks regions.old) (region_marks regions.new) }
+    {
+        let mut cells = [0; 64];
+        let mut waiting = Waiting::new(&mut cells);
+        self.sweep_all(regions, &mut waiting);
+        while let Some(near) = waiting.pop() {
+            self.sweep(near, regions, &mut waiting);
+        }
+    }
+
+    // Marks the regions reached, and no other region.
+    pub fn mark_reached(&self, regions: &mut Regions)
+        ensures { regions_in (world_of self.now.world.now) regions.new ≡ reached I.Inventory.meaning (world_of self.now.world.now) (I.Inventory.value self.now.held) }
+    {
+        regions.clear();
+        regions.mark(0);
+        self.spread(regions);
+    }
 }

@@ -1,88 +1,73 @@
-// Whether a value meets a rule.
-ghost use Rattle.std.specs.Prelude.{◌≡◌};
+// Whether a player meets a rule.
+ghost use Rattle.std.specs.Prelude.{◌≡◌, ◌<◌, ◌∷◌, length, None, MatchOption};
 ghost use Rattle.inventory.specs.Meaning.{held};
-ghost use Rattle.scratch.specs.Held.{held as stacked, room};
-ghost use Rattle.model.specs.Rules.{reads};
+ghost use Rattle.scratch.specs.Held.{held as stacked};
+ghost use Rattle.model.specs.Rules.{reads, weigh};
 ghost use Rattle.world.specs.Worlds.{world_of, rule_at};
-ghost use Rattle.explore.specs.Meeting.{met, LaidDown, PutDown};
+ghost use Rattle.explore.specs.Meeting.{met, answered, PutDown};
 
+use crate::player::Player;
+use crate::waiting::Waiting;
 use inventory::Inventory;
 use model::RuleWord;
-use scratch::Stack;
-use world::{Part, World};
+use world::Part;
 
-// Lays an answer on those that wait; says whether there was room.
-fn lay(stack: &mut Stack<bool>, answer: bool) -> bool
-    requires { room stack.old ≡ 8 }
-    ensures laid { LaidDown result answer (stacked stack.old) (stacked stack.new) }
-    ensures room { room stack.new ≡ 8 }
+// Takes the two newest of the answers that wait, if there are two: the older one, and the newer.
+fn pop_two(waiting: &mut Waiting<'_, bool, 8>) -> Option<(bool, bool)>
+    ensures { MatchOption result (length (stacked waiting.old.stack) < 2) (λ two. (stacked waiting.old.stack ≡ two.1 ∷ two.0 ∷ stacked waiting.new.stack) × (length (stacked waiting.new.stack) < 8)) }
 {
-    match stack.push(answer) {
-        Ok(_) => true,
-        Err(_) => false,
-    }
+    let newer = waiting.pop()?;
+    let older = waiting.pop()?;
+    Some((older, newer))
 }
 
-// Lets a word work on the answers that wait; says whether it found what it needs.
-fn put_down<I: Inventory>(value: &I, word: RuleWord, stack: &mut Stack<bool>) -> bool
-    requires { room stack.old ≡ 8 }
-    ensures put { PutDown result (held I.Inventory.meaning (I.Inventory.value value.now)) word (stacked stack.old) (stacked stack.new) }
-    ensures room { room stack.new ≡ 8 }
+// Lets a word work on the answers that wait, if it finds what it needs.
+fn put_down<I: Inventory>(
+    value: &I,
+    word: RuleWord,
+    waiting: &mut Waiting<'_, bool, 8>,
+) -> Option<()>
+    ensures put { MatchOption result (weigh (length (stacked waiting.old.stack)) word ≡ None) (λ _. PutDown (held I.Inventory.meaning (I.Inventory.value value.now)) word (stacked waiting.old.stack) (stacked waiting.new.stack)) }
 {
     match word {
-        RuleWord::Free => lay(stack, true),
-        RuleWord::Need { code, amount } => lay(stack, value.holds(code, amount)),
+        RuleWord::Free => waiting.lay(true),
+        RuleWord::Need { code, amount } => waiting.lay(value.holds(code, amount)),
         RuleWord::And => {
-            let Some(newer) = stack.pop() else {
-                return false;
-            };
-            let Some(older) = stack.pop() else {
-                return false;
-            };
-            lay(stack, older & newer)
+            let (older, newer) = pop_two(waiting)?;
+            waiting.lay(older & newer)
         }
         RuleWord::Or => {
-            let Some(newer) = stack.pop() else {
-                return false;
-            };
-            let Some(older) = stack.pop() else {
-                return false;
-            };
-            lay(stack, older | newer)
+            let (older, newer) = pop_two(waiting)?;
+            waiting.lay(older | newer)
         }
     }
 }
 
-// Passes over the words from left to right.
-fn answer<I: Inventory>(value: &I, rule: &[RuleWord]) -> bool
-    ensures { result ≡ met (held I.Inventory.meaning (I.Inventory.value value.now)) rule.now }
+// Passes over the words from left to right; words that are not a well formed rule have no answer.
+fn answer<I: Inventory>(value: &I, rule: &[RuleWord]) -> Option<bool>
+    ensures { result ≡ answered (held I.Inventory.meaning (I.Inventory.value value.now)) rule.now }
 {
     let mut cells = [false; 8];
-    let mut stack = Stack::new(&mut cells);
+    let mut waiting = Waiting::new(&mut cells);
     for word in rule {
-        if !put_down(value, *word, &mut stack) {
-            return false;
-        }
+        put_down(value, *word, &mut waiting)?;
     }
-    let Some(newest) = stack.pop() else {
-        return false;
-    };
-    match stack.pop() {
-        Some(_) => false,
-        None => newest,
-    }
+    let newest = waiting.pop()?;
+    waiting.pop().is_none().then_some(newest)
 }
 
-// Whether the value meets a rule of the world; words that are not a well formed rule are never met.
-pub fn meets_rule<I: Inventory>(world: &World, rule: Part, value: &I) -> bool
-    ensures { result ≡ met (held I.Inventory.meaning (I.Inventory.value value.now)) (rule_at world.now rule) }
-{
-    answer(value, world.rule(rule))
-}
+impl<I: Inventory> Player<'_, I> {
+    // Whether what is held meets a rule of the world; words that are not a well formed rule are never met.
+    pub fn meets_rule(&self, rule: Part) -> bool
+        ensures { result ≡ met (held I.Inventory.meaning (I.Inventory.value self.now.held)) (rule_at self.now.world.now rule) }
+    {
+        answer(&self.held, self.world.rule(rule)).unwrap_or(false)
+    }
 
-// Whether the value meets the goal.
-pub fn goal_met<I: Inventory>(world: &World, value: &I) -> bool
-    ensures { result ≡ reads (held I.Inventory.meaning (I.Inventory.value value.now)) (world_of world.now).goal }
-{
-    meets_rule(world, world.goal(), value)
+    // Whether what is held meets the goal.
+    pub fn meets_goal(&self) -> bool
+        ensures { result ≡ reads (held I.Inventory.meaning (I.Inventory.value self.now.held)) (world_of self.now.world.now).goal }
+    {
+        self.meets_rule(self.world.goal())
+    }
 }

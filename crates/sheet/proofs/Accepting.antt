@@ -1,34 +1,26 @@
 -- Which placements are refused at no place.
-use Rattle.std.proofs.Common.{◌≡◌, ℕ, zero, suc, ◌<◌, Bool, true, false, cond, ◌||◌, eqb, ltb, [], ◌∷◌, ◌++◌, Some, None, Option, sym, refl, ap, ◌∙◌, inl, inr, arith}
+use Rattle.std.proofs.Common.{◌≡◌, ℕ, zero, suc, ◌<◌, false, cond, ◌||◌, eqb, ltb, [], ◌∷◌, ◌++◌, Some, None, Option, sym, refl, ap, ◌∙◌, inl, inr, arith}
+use Rattle.std.proofs.Math.Bool.{or-false, or_assoc}
+use Rattle.std.proofs.lemmas.Option.{none-some}
 use Rattle.std.proofs.lemmas.Bool.{cases_Bool, cond-true, cond-false, lt-ltb, ltb-true, eqb-true, eq-eqb, or_parts, or_from, both_ways}
 use Rattle.model.specs.Placements.{Placement, item_at, Once}
+use Rattle.model.specs.Boards.{is_item, is_set}
 use Rattle.sheet.specs.declared.refusal.LoadRefusal.{LoadRefusal}
 use Rattle.sheet.specs.declared.refusal.LoadRefusal.TheVariants.{OutsidePool, ItemTwice}
-use Rattle.sheet.specs.Records.{is_item, is_set}
 use Rattle.sheet.specs.Files.{entry_refusal, or_else, entries_refusal}
 
 is_set_push : (seen : Placement) (o : Option ℕ) (i : ℕ) → is_set (seen ++ o ∷ []) i ≡ (is_set seen i || is_item i o)
+unfolding is_set
 is_set_push [] None i = refl
-is_set_push [] (Some j) i = or_false (eqb i j)
-  where
-    or_false : (b : Bool) → (b || false) ≡ b
-    or_false true = refl
-    or_false false = refl
+is_set_push [] (Some j) i = or-false (eqb i j)
 is_set_push (x ∷ seen) o i = ap (λ b. is_item i x || b) (is_set_push seen o i) ∙ sym (or_assoc (is_item i x) (is_set seen i) (is_item i o))
-  where
-    or_assoc : (a b c : Bool) → ((a || b) || c) ≡ (a || (b || c))
-    or_assoc true b c = refl
-    or_assoc false b c = refl
 
 both_none : (a b : Option LoadRefusal) → or_else a b ≡ None → (a ≡ None) × (b ≡ None)
 both_none None b e = (refl, e)
-both_none (Some why) b e = absurd (let z : ◌≡◌ {A = ℕ} 0 1 = cc in omega arith)
+both_none (Some why) b e = absurd (none-some why (sym e))
 
 none_both : (a b : Option LoadRefusal) → a ≡ None → b ≡ None → or_else a b ≡ None
 none_both a b e f = ap (λ (x : Option LoadRefusal). or_else x b) e ∙ f
-
-not_some : (why : LoadRefusal) → Some why ≡ None → ⊥
-not_some why e = let z : ◌≡◌ {A = ℕ} 0 1 = cc in omega arith
 
 -- of a place that is not refused: its item is of the pool, and was not seen
 fine_here : (pool : ℕ) (seen : Placement) (i : ℕ) → entry_refusal pool seen (Some i) ≡ None → (i < pool) × (is_set seen i ≡ false)
@@ -37,10 +29,10 @@ fine_here pool seen i e =
       | inl inside ↦
           let e' = sym (cond-true (ltb i pool) (cond (is_set seen i) (Some ItemTwice) None) (Some OutsidePool) inside) ∙ e in
           elim (cases_Bool (is_set seen i)) [
-            | inl twice ↦ absurd (not_some ItemTwice (sym (cond-true (is_set seen i) (Some ItemTwice) None twice) ∙ e'))
+            | inl twice ↦ absurd (none-some ItemTwice (sym e' ∙ cond-true (is_set seen i) (Some ItemTwice) None twice))
             | inr new ↦ (ltb-true i pool inside, new)
           ]
-      | inr outside ↦ absurd (not_some OutsidePool (sym (cond-false (ltb i pool) (cond (is_set seen i) (Some ItemTwice) None) (Some OutsidePool) outside) ∙ e))
+      | inr outside ↦ absurd (none-some OutsidePool (sym e ∙ cond-false (ltb i pool) (cond (is_set seen i) (Some ItemTwice) None) (Some OutsidePool) outside))
     ]
 
 here_fine : (pool : ℕ) (seen : Placement) (o : Option ℕ) → ((i : ℕ) → o ≡ Some i → (i < pool) × (is_set seen i ≡ false)) → entry_refusal pool seen o ≡ None
@@ -86,11 +78,8 @@ module _ (pool : ℕ) (seen : Placement) (o : Option ℕ) (p : Placement) (here 
   all_once (suc j) zero i a b = absurd (not_here j i b a)
   all_once (suc j) (suc k) i a b = ap suc (later.once j k i a b)
 
-nothing_there : (k i : ℕ) → item_at [] k ≡ Some i → ⊥
-nothing_there k i e = let z : ◌≡◌ {A = ℕ} 0 1 = cc in omega arith
-
 pub is_fine : (pool : ℕ) (seen p : Placement) → entries_refusal pool seen p ≡ None → Fine pool seen p
-is_fine pool seen [] e = record { known = λ k i x. absurd (nothing_there k i x); once = λ j k i a b. absurd (nothing_there j i a) }
+is_fine pool seen [] e = record { known = λ k i x. absurd (none-some i x); once = λ j k i a b. absurd (none-some i a) }
 is_fine pool seen (o ∷ p) e =
     let both = both_none (entry_refusal pool seen o) (entries_refusal pool (seen ++ o ∷ []) p) e in
     let later = is_fine pool (seen ++ o ∷ []) p both.1 in

@@ -7,6 +7,7 @@ use Rattle.std.proofs.lemmas.Bool.{cond-false, ne_eqb, eqb-true, ltb-false}
 use Rattle.model.specs.Worlds.{World}
 use Rattle.model.specs.Proper.{proper}
 use Rattle.model.specs.Placements.{Placement, item_at, Placed}
+use Rattle.model.specs.Boards.{is_set}
 use Rattle.model.proofs.Limits.{proper_facts}
 use Rattle.sheet.specs.declared.refusal.LoadRefusal.{LoadRefusal}
 use Rattle.sheet.specs.Changes.{unless}
@@ -62,6 +63,7 @@ module _ (w : World) (p : Placement) (on : Placed w p) where
   same_count = div-add-mod' (length p) 256
 
   passes : checked (length w.pool) p ≡ Ok p
+  unfolding is_set
   passes = ap (λ (x : Option LoadRefusal). unless x p) (fine (length w.pool) [] p (λ k i e. (on.lies.known k i e, refl)) on.once)
 
   pub read_back : loaded w (file_of p) ≡ Ok p

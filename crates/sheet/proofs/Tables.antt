@@ -1,19 +1,12 @@
--- What is known of every table of place records, and what makes another one.
-use Rattle.std.proofs.Common.{◌≡◌, ℕ, zero, suc, ◌<◌, ◌≤◌, true, List, [], ◌∷◌, map, length, set, replicate, Some, None, Option, sym, refl, ap, ◌∙◌, subst, arith, length-set, length-take}
+-- What is known of the inside of every table of place records, and what makes another one.
+use Rattle.std.proofs.Common.{◌≡◌, ℕ, zero, suc, ◌<◌, ◌≤◌, true, set, replicate, Some, None, Option, sym, refl, ◌∙◌, length-set}
+use Rattle.std.proofs.lemmas.Option.{none-some}
 use lib.ListN.{length-replicate}
-use Rattle.model.specs.Placements.{Placement, item_at, Once}
-use Rattle.sheet.specs.declared.table.PlaceTable.{PlaceTable}
-use Rattle.sheet.specs.Records.{Shared, may_lie}
-use Rattle.sheet.specs.Tables.{placement_of}
+use Rattle.model.specs.Placements.{item_at, Once}
+use Rattle.sheet.specs.declared.table.PlaceTable.TheInside.{Inside}
+use Rattle.sheet.specs.Inside.{placement_in, Keeps}
+use Rattle.sheet.specs.Records.{may_lie}
 use Rattle.sheet.proofs.Records.{item_within, not_found, may_lie_facts, still_once, still_small, still_none}
-
--- what a table keeps, of its records and its count
-pub record Keeps (records : Placement) (count : ℕ) : Type 0 where
-  pub room : length records ≡ 256
-  pub few : count ≤ 256
-  pub none_behind : (k : ℕ) → count ≤ k → item_at records k ≡ None
-  pub once : (j k : ℕ) → Shared records j k → j ≡ k
-  pub small : (k i : ℕ) → item_at records k ≡ Some i → i < 256
 
 none_there : (n k : ℕ) → item_at (replicate n None) k ≡ None
 none_there zero k = refl
@@ -21,48 +14,30 @@ none_there (suc n) zero = refl
 none_there (suc n) (suc k) = none_there n k
 
 nothing_lies : (n k i : ℕ) → item_at (replicate n None) k ≡ Some i → ⊥
-nothing_lies n k i e = let e' = none_there n k in let z : ◌≡◌ {A = ℕ} 0 1 = cc in omega arith
+nothing_lies n k i e = none-some i (sym (none_there n k) ∙ e)
 
-pub none_keep : (records : Placement) (count : ℕ) → records ≡ replicate 256 None → count ≤ 256 → Keeps records count
-none_keep records count e few =
-    subst (λ (r : Placement). Keeps r count) (sym e)
-    record {
-      room = length-replicate {A = Option ℕ} 256 None;
-      few = few;
-      none_behind = λ k h. none_there 256 k;
-      once = λ j k x. absurd (nothing_lies 256 j x.0 x.1);
-      small = λ k i x. absurd (nothing_lies 256 k i x);
-    }
+pub none_keep : (count : ℕ) → count ≤ 256 → Keeps (record { records = replicate 256 None; count = count })
+none_keep count few = record {
+  room = length-replicate {A = Option ℕ} 256 None;
+  few = few;
+  none_behind = λ k h. none_there 256 k;
+  once = λ j k i a b. absurd (nothing_lies 256 j i a);
+  small = λ k i x. absurd (nothing_lies 256 k i x);
+}
 
--- no item at each of as many places
-pub none_everywhere : {X : Type 0} (xs : List X) (n : ℕ) → n ≡ length xs → ◌≡◌ {A = Placement} (replicate n None) (map (λ x. None) xs)
-none_everywhere [] n e = ap (λ k. replicate {A = Option ℕ} k None) e
-none_everywhere (x ∷ xs) n e = ap (λ k. replicate {A = Option ℕ} k None) e ∙ ap (λ (p : Placement). None ∷ p) (none_everywhere xs (length xs) refl)
+module _ (t : Inside) (kept : Keeps t) where
+  pub item_is : (k : ℕ) → item_at (placement_in t) k ≡ item_at t.records k
+  item_is k = item_within t.records t.count k kept.none_behind
 
-module _ (t : PlaceTable) where
-  pub item_is : (k : ℕ) → item_at (placement_of t) k ≡ item_at t.records k
-  unfolding placement_of
-  item_is k = item_within t.records t.count k t.none_behind
-
-  pub count_is : length (placement_of t) ≡ t.count
-  unfolding placement_of
-  count_is = omega (arith, length-take t.count t.records, t.few, t.room)
-
-  pub few_places : length (placement_of t) ≤ 256
-  few_places = omega (arith, count_is, t.few)
-
-  pub once_each : Once (placement_of t)
-  once_each j k i a b = t.once j k (i, sym (item_is j) ∙ a, sym (item_is k) ∙ b)
-
-  pub small_items : (k i : ℕ) → item_at (placement_of t) k ≡ Some i → i < 256
-  small_items k i e = t.small k i (sym (item_is k) ∙ e)
+  pub once_each : Once (placement_in t)
+  once_each j k i a b = kept.once j k i (sym (item_is j) ∙ a) (sym (item_is k) ∙ b)
 
   -- another record at a place among the first m, with an item that lies nowhere yet
-  pub change_keeps : (n : ℕ) (o : Option ℕ) (m : ℕ) → n < m → t.count ≤ m → m ≤ 256 → may_lie (placement_of t) o ≡ true → Keeps (set t.records n o) m
+  pub change_keeps : (n : ℕ) (o : Option ℕ) (m : ℕ) → n < m → t.count ≤ m → m ≤ 256 → may_lie (placement_in t) o ≡ true → Keeps (record { records = set t.records n o; count = m })
   change_keeps n o m here more few fresh = record {
-    room = length-set t.records n o ∙ t.room;
+    room = length-set t.records n o ∙ kept.room;
     few = few;
-    none_behind = still_none t.records n o t.count m more here t.none_behind;
-    once = still_once t.records n o t.once (λ i k e x. not_found (placement_of t) i k (may_lie_facts (placement_of t) o i fresh e).1 (item_is k ∙ x));
-    small = still_small t.records n o t.small (λ i e. (may_lie_facts (placement_of t) o i fresh e).0);
+    none_behind = still_none t.records n o t.count m more here kept.none_behind;
+    once = still_once t.records n o kept.once (λ i k e x. not_found (placement_in t) i k (may_lie_facts (placement_in t) o i fresh e).1 (item_is k ∙ x));
+    small = still_small t.records n o kept.small (λ i e. (may_lie_facts (placement_in t) o i fresh e).0);
   }

@@ -1,9 +1,9 @@
 -- What a change of one place answers, and what it leaves.
 use Rattle.std.specs.Prelude.{ℕ, cond, length, Some, None, Ok, Err, Option, Result, nat_lt, slice_set}
 use Rattle.model.specs.Placements.{Placement, item_at}
+use Rattle.model.specs.Boards.{no_item, is_set}
 use Rattle.sheet.specs.declared.refusal.PlaceRefusal.{PlaceRefusal}
 use Rattle.sheet.specs.declared.refusal.PlaceRefusal.TheVariants.{NoPlace, PlaceTaken, NoItem, ItemSet, PlaceEmpty}
-use Rattle.sheet.specs.Records.{no_item, is_set}
 
 -- a placement, unless there is a refusal
 abbrev pub unless : {E : Type 0} → Option E → Placement → Result Placement E

@@ -3,10 +3,10 @@ use Rattle.std.specs.Prelude.{ℕ, ◌+◌, ◌-◌, ◌*◌, ◌/◌, ◌%◌, 
 use Rattle.std.specs.List.{flat_map}
 use Rattle.model.specs.Worlds.{World}
 use Rattle.model.specs.Placements.{Placement}
+use Rattle.model.specs.Boards.{is_set}
 use Rattle.sheet.specs.declared.refusal.LoadRefusal.{LoadRefusal}
 use Rattle.sheet.specs.declared.refusal.LoadRefusal.TheVariants.{WrongLength, WrongCount, OutsidePool, ItemTwice}
 use Rattle.sheet.specs.declared.refusal.ShortBuffer.{ShortBuffer}
-use Rattle.sheet.specs.Records.{is_set}
 use Rattle.sheet.specs.Changes.{unless}
 
 -- a number as two bytes, the high one first

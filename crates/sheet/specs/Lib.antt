@@ -1,3 +1,5 @@
+pub mod Inside
+pub mod GivenBack
 pub mod Records
 pub mod Refusals
 pub mod Changes

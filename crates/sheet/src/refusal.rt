@@ -1,48 +1,59 @@
 // Why a placement does not change, and why a file is not read or written.
 ghost use Rattle.std.specs.Prelude.{◌≡◌};
-ghost use Rattle.sheet.specs.Refusals.{load_number, write_number};
+ghost use Rattle.sheet.specs.Refusals.{board_refusal, load_number, write_number};
 
-use std::fmt;
+use model::BoardRefusal;
 
 // Why a table of place records is left as it is. Numbers for these cases are a board's.
-#[derive(Clone, Copy, PartialEq, Eq, Debug)]
+#[derive(Clone, Copy, PartialEq, Eq, Debug, thiserror::Error)]
 pub enum PlaceRefusal {
     // a place that the table does not have
+    #[error("there is no such place")]
     NoPlace,
     // an item lies at the place
+    #[error("the place has an item")]
     PlaceTaken,
     // an item that no pool has
+    #[error("no pool has such an item")]
     NoItem,
     // the item lies at another place
+    #[error("the item lies at another place")]
     ItemSet,
     // no item lies at the place
+    #[error("the place has no item")]
     PlaceEmpty,
 }
 
-impl fmt::Display for PlaceRefusal {
-    fn fmt<W: fmt::Write>(&self, f: &mut fmt::Formatter<W>) -> fmt::Result {
-        let sentence = match self {
-            PlaceRefusal::NoPlace => "there is no such place",
-            PlaceRefusal::PlaceTaken => "the place has an item",
-            PlaceRefusal::NoItem => "no pool has such an item",
-            PlaceRefusal::ItemSet => "the item lies at another place",
-            PlaceRefusal::PlaceEmpty => "the place has no item",
-        };
-        f.write_str(sentence)
+// What a board says where its table refuses.
+impl From<PlaceRefusal> for BoardRefusal {
+    ghost from_gives = { λ why refusal. refusal ≡ board_refusal why };
+
+    fn from(why: PlaceRefusal) -> BoardRefusal {
+        match why {
+            PlaceRefusal::NoPlace => BoardRefusal::NoPlace,
+            PlaceRefusal::PlaceTaken => BoardRefusal::PlaceTaken,
+            PlaceRefusal::NoItem => BoardRefusal::NoItem,
+            PlaceRefusal::ItemSet => BoardRefusal::ItemSet,
+            PlaceRefusal::PlaceEmpty => BoardRefusal::PlaceEmpty,
+        }
     }
 }
 
 // Why a file is not loaded, in the order in which it is looked at.
-#[derive(Clone, Copy, PartialEq, Eq, Debug)]
+#[derive(Clone, Copy, PartialEq, Eq, Debug, thiserror::Error)]
 pub enum LoadRefusal {
     // too few bytes for a count, or not two for each place
-    WrongLength,
+    #[error("the file is too short or too long")]
+    WrongLength = 13,
     // a count that is not the world's
-    WrongCount,
+    #[error("the world has another number of places")]
+    WrongCount = 14,
     // an item that the pool does not have
-    OutsidePool,
+    #[error("the pool has no such item")]
+    OutsidePool = 16,
     // an item that an earlier place has
-    ItemTwice,
+    #[error("an item lies at two places")]
+    ItemTwice = 17,
 }
 
 impl LoadRefusal {
@@ -50,29 +61,13 @@ impl LoadRefusal {
     pub fn number(self) -> u8
         ensures { result ≡ load_number self }
     {
-        match self {
-            LoadRefusal::WrongLength => 13,
-            LoadRefusal::WrongCount => 14,
-            LoadRefusal::OutsidePool => 16,
-            LoadRefusal::ItemTwice => 17,
-        }
-    }
-}
-
-impl fmt::Display for LoadRefusal {
-    fn fmt<W: fmt::Write>(&self, f: &mut fmt::Formatter<W>) -> fmt::Result {
-        let sentence = match self {
-            LoadRefusal::WrongLength => "the file is too short or too long",
-            LoadRefusal::WrongCount => "the world has another number of places",
-            LoadRefusal::OutsidePool => "the pool has no such item",
-            LoadRefusal::ItemTwice => "an item lies at two places",
-        };
-        f.write_str(sentence)
+        self as u8
     }
 }
 
 // Why a file is not written: the buffer has too few bytes.
-#[derive(Clone, Copy, PartialEq, Eq, Debug)]
+#[derive(Clone, Copy, PartialEq, Eq, Debug, thiserror::Error)]
+#[error("the buffer is too short for the file")]
 pub struct ShortBuffer;
 
 impl ShortBuffer {
@@ -81,11 +76,5 @@ impl ShortBuffer {
         ensures { result ≡ write_number self }
     {
         18
-    }
-}
-
-impl fmt::Display for ShortBuffer {
-    fn fmt<W: fmt::Write>(&self, f: &mut fmt::Formatter<W>) -> fmt::Result {
-        f.write_str("the buffer is too short for the file")
     }
 }

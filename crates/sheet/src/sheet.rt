@@ -1,6 +1,5 @@
 // A sheet: a placement with its count of places, to be kept in a file.
 ghost use Rattle.std.specs.Prelude.{◌≡◌, []};
-ghost use Rattle.sheet.specs.Tables.{placement_of};
 
 use crate::table::PlaceTable;
 
@@ -15,7 +14,7 @@ pub struct Sheet {
 impl Sheet {
     // The sheet of a new world, which has no places.
     pub fn new() -> Sheet
-        ensures { placement_of result.table ≡ [] }
+        ensures { result.table ≡ [] }
     {
         Sheet {
             table: PlaceTable::new(),

@@ -1,7 +1,5 @@
 // A table of place records: which item lies at each place, and no item at two.
-ghost use Rattle.std.specs.Prelude.{◌≡◌, ℕ, ◌<◌, ◌≤◌, length, Some, None};
-ghost use Rattle.model.specs.Placements.{item_at};
-ghost use Rattle.sheet.specs.Records.{Shared};
+use std::marker::Model;
 
 mod changes;
 mod makes;
@@ -13,13 +11,26 @@ pub(crate) use makes::place_count;
 // its records as they stand to all that explores a world.
 pub type PlaceRecord = Option<u16>;
 
+// A placement. Its records lie in it: no memory is asked for, and it is copied, which an `ArrayVec` is not.
 #[derive(Clone, Copy)]
 pub struct PlaceTable {
     records: [PlaceRecord; 256],
     count: usize,
-    ghost room: { length records ≡ 256 },
-    ghost few: { count ≤ 256 },
-    ghost none_behind: { ((k : ℕ) → count ≤ k → item_at records k ≡ None) },
-    ghost once: { ((j k : ℕ) → Shared records j k → j ≡ k) },
-    ghost small: { ((k i : ℕ) → item_at records k ≡ Some i → i < 256) },
+}
+
+impl Model for PlaceTable {
+    ghost use Rattle.model.specs.Placements.{Placement};
+
+    ghost Value = { Placement };
+
+    ghost use Rattle.sheet.specs.Inside.{placement_in, Keeps, table_of};
+    ghost use Rattle.sheet.specs.GivenBack.{given_back};
+
+    ghost view = { placement_in };
+
+    ghost invariant = { Keeps };
+
+    ghost inverse = { table_of };
+
+    ghost inverse_ok = { given_back };
 }

@@ -1,8 +1,8 @@
 // Changing one record of a table.
 ghost use Rattle.std.specs.Prelude.{◌≡◌, ◌<◌, true, [], ◌∷◌, ◌++◌, length, is_ok, if◌then◌else◌, None, slice_set};
+ghost use Rattle.std.specs.Result.{result_err};
 ghost use Rattle.sheet.specs.Records.{may_lie};
 ghost use Rattle.sheet.specs.Changes.{set_refusal, laid, taken_up, told, left_by};
-ghost use Rattle.sheet.specs.Tables.{placement_of};
 
 use super::{PlaceRecord, PlaceTable};
 use crate::refusal::PlaceRefusal;
@@ -10,70 +10,61 @@ use crate::refusal::PlaceRefusal;
 impl PlaceTable {
     // Lays an item down at a place where none lies.
     pub fn set(&mut self, place: usize, item: u16) -> Result<(), PlaceRefusal>
-        ensures answer { result ≡ told (laid (placement_of self.old) place item) }
-        ensures placement { placement_of self.new ≡ left_by (laid (placement_of self.old) place item) (placement_of self.old) }
+        ensures answer { result ≡ told (laid self.old place item) }
+        ensures placement { self.new ≡ left_by (laid self.old place item) self.old }
     {
-        match self.set_refusal(place, item) {
-            Some(why) => Err(why),
-            None => {
-                self.put(place, Some(item));
-                Ok(())
-            }
-        }
+        self.check_set(place, item)?;
+        self.put(place, Some(item));
+        Ok(())
     }
 
     // Takes the item away that lies at a place.
     pub fn take_up(&mut self, place: usize) -> Result<u16, PlaceRefusal>
-        ensures answer { result ≡ taken_up (placement_of self.old) place }
-        ensures placement { placement_of self.new ≡ (if is_ok result then slice_set (placement_of self.old) place None else placement_of self.old) }
+        ensures answer { result ≡ taken_up self.old place }
+        ensures placement { self.new ≡ (if is_ok result then slice_set self.old place None else self.old) }
+    {
+        let found = *self.placement().get(place).ok_or(PlaceRefusal::NoPlace)?;
+        let item = found.ok_or(PlaceRefusal::PlaceEmpty)?;
+        self.put(place, None);
+        Ok(item)
+    }
+
+    // Whether an item may be laid down at a place.
+    fn check_set(&self, place: usize, item: u16) -> Result<(), PlaceRefusal>
+        ensures { result_err result ≡ set_refusal self.now place item }
     {
         if place >= self.count() {
             return Err(PlaceRefusal::NoPlace);
         }
-        match self.item_at(place) {
-            None => Err(PlaceRefusal::PlaceEmpty),
-            Some(item) => {
-                self.put(place, None);
-                Ok(item)
-            }
-        }
-    }
-
-    fn set_refusal(&self, place: usize, item: u16) -> Option<PlaceRefusal>
-        ensures { result ≡ set_refusal (placement_of self.now) place item }
-    {
-        if place >= self.count() {
-            return Some(PlaceRefusal::NoPlace);
-        }
         if self.item_at(place).is_some() {
-            return Some(PlaceRefusal::PlaceTaken);
+            return Err(PlaceRefusal::PlaceTaken);
         }
         if item >= 256 {
-            return Some(PlaceRefusal::NoItem);
+            return Err(PlaceRefusal::NoItem);
         }
         if self.is_set(item) {
-            return Some(PlaceRefusal::ItemSet);
+            return Err(PlaceRefusal::ItemSet);
         }
-        None
+        Ok(())
     }
 
     // Writes over a record.
     fn put(&mut self, place: usize, change: PlaceRecord)
-        requires place { place < length (placement_of self.old) }
-        requires fresh { may_lie (placement_of self.old) change ≡ true }
-        ensures { placement_of self.new ≡ slice_set (placement_of self.old) place change }
+        requires place { place < length self.old }
+        requires fresh { may_lie self.old change ≡ true }
+        ensures { self.new ≡ slice_set self.old place change }
     {
+        prove!(place < self.count);
         self.records[place] = change;
     }
 
     // One place more, behind the others.
     pub(crate) fn push(&mut self, last: PlaceRecord)
-        requires room { length (placement_of self.old) < 256 }
-        requires fresh { may_lie (placement_of self.old) last ≡ true }
-        ensures { placement_of self.new ≡ placement_of self.old ++ last ∷ [] }
+        requires room { length self.old < 256 }
+        requires fresh { may_lie self.old last ≡ true }
+        ensures { self.new ≡ self.old ++ last ∷ [] }
     {
-        let place = self.count;
-        self.records[place] = last;
-        self.count = place + 1;
+        self.records[self.count] = last;
+        self.count += 1;
     }
 }

@@ -1,16 +1,10 @@
 // Making a table.
 ghost use Rattle.std.specs.Prelude.{◌≡◌, ◌≤◌, [], length, replicate, None};
 ghost use Rattle.world.specs.Worlds.{world_of};
-ghost use Rattle.sheet.specs.Tables.{placement_of, blank};
+ghost use Rattle.sheet.specs.Tables.{blank};
 
-use super::{PlaceRecord, PlaceTable};
+use super::PlaceTable;
 use world::World;
-
-fn none() -> [PlaceRecord; 256]
-    ensures { result ≡ replicate 256 None }
-{
-    [None; 256]
-}
 
 // How many places a world has.
 pub(crate) fn place_count(world: &World) -> usize
@@ -22,10 +16,10 @@ pub(crate) fn place_count(world: &World) -> usize
 
 fn empty(count: usize) -> PlaceTable
     requires { count ≤ 256 }
-    ensures { placement_of result ≡ replicate count None }
+    ensures { result ≡ replicate count None }
 {
     PlaceTable {
-        records: none(),
+        records: [None; 256],
         count,
     }
 }
@@ -33,14 +27,14 @@ fn empty(count: usize) -> PlaceTable
 impl PlaceTable {
     // A table without places, as a new world has none.
     pub fn new() -> PlaceTable
-        ensures { placement_of result ≡ [] }
+        ensures { result ≡ [] }
     {
         empty(0)
     }
 
     // A record for each place of a world, and no item anywhere.
     pub fn for_world(world: &World) -> PlaceTable
-        ensures { placement_of result ≡ blank (world_of world.now) }
+        ensures { result ≡ blank (world_of world.now) }
     {
         empty(place_count(world))
     }

@@ -1,60 +1,39 @@
 // Reading a table.
 ghost use Rattle.std.specs.Prelude.{◌≡◌, ℕ, ◌<◌, ◌≤◌, length, Some};
 ghost use Rattle.model.specs.Placements.{item_at, Once};
-ghost use Rattle.sheet.specs.Records.{is_item, is_set};
-ghost use Rattle.sheet.specs.Tables.{placement_of};
+ghost use Rattle.model.specs.Boards.{is_set};
 
 use super::{PlaceRecord, PlaceTable};
-
-// Whether that item lies there.
-fn is_item(found: PlaceRecord, item: u16) -> bool
-    ensures { result ≡ is_item item found }
-{
-    match found {
-        Some(other) => item == other,
-        None => false,
-    }
-}
 
 impl PlaceTable {
     // How many places there are.
     pub fn count(&self) -> usize
-        ensures { result ≡ length (placement_of self.now) }
+        ensures { result ≡ length self.now }
     {
         self.count
     }
 
-    // The records, as a placement.
+    // The records, as a placement. Its length is told with it, since no type of a slice has a bound.
     pub fn placement(&self) -> &[PlaceRecord]
-        ensures records { result.now ≡ placement_of self.now }
+        ensures records { result.now ≡ self.now }
         ensures few { length result.now ≤ 256 }
         ensures once { Once result.now }
         ensures small { (k i : ℕ) → item_at result.now k ≡ Some i → i < 256 }
     {
-        let count = self.count;
-        &self.records[0..count]
+        &self.records[..self.count]
     }
 
     // What lies at a place; nothing where there is no such place.
     pub fn item_at(&self, place: usize) -> Option<u16>
-        ensures { result ≡ item_at (placement_of self.now) place }
+        ensures { result ≡ item_at self.now place }
     {
-        if place < self.count {
-            self.records[place]
-        } else {
-            None
-        }
+        self.placement().get(place).copied().flatten()
     }
 
     // Whether an item lies somewhere.
     pub fn is_set(&self, item: u16) -> bool
-        ensures { result ≡ is_set (placement_of self.now) item }
+        ensures { result ≡ is_set self.now item }
     {
-        for record in self.placement() {
-            if is_item(*record, item) {
-                return true;
-            }
-        }
-        false
+        self.placement().contains(&Some(item))
     }
 }

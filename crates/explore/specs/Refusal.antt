@@ -1,6 +1,0 @@
--- The number of the refusal for too few marks.
-use Rattle.std.specs.Prelude.{ℕ}
-use Rattle.explore.specs.declared.few_marks.FewMarks.{FewMarks}
-
-abbrev pub number_of : FewMarks → ℕ
-number_of few = 19
