@@ -1,4 +1,3 @@
-pub mod Making
 pub mod Taking
 pub mod Setting
 pub mod Loose

@@ -5,7 +5,6 @@ use Rattle.world.specs.Worlds.{world_of}
 use Rattle.model.specs.declared.board_refusal.BoardRefusal.{BoardRefusal}
 use Rattle.model.specs.Worlds.{World as Atlas}
 use Rattle.model.specs.Boards.{Board as Model, new_board, make_refusal}
-use Rattle.sheet.specs.Tables.{placement_of}
 use Rattle.board.specs.declared.board.Board.{Board}
 
 -- the world that the board is of
@@ -14,7 +13,7 @@ atlas_of b = world_of b.world.now
 
 -- its placement and its hand
 unfoldable pub board_of : {I : Type 0} → Board I → Model
-board_of b = record { placement = placement_of b.layout.table; hand = b.layout.hand }
+board_of b = record { placement = b.layout.table; hand = b.layout.hand }
 
 -- a board of the same world that stands for what a call leaves
 abbrev pub Left : {I : Type 0} → Board I → Model → Board I → Type 0

@@ -2,7 +2,6 @@
 #![tactic(auto)]
 
 mod board;
-mod refusal;
 mod token;
 mod uses;
 

@@ -3,7 +3,8 @@ ghost use Rattle.std.specs.Prelude.{◌≡◌, true, false};
 
 use model::BoardRefusal;
 
-// Stands for an item that was lifted. It may end only once it is spent, and only a set or a back spends it.
+// Stands for an item that was lifted. It may end only once it is spent, and only a set or a back spends it. That it was
+// spent is a field, and no state of the type, since the drop has to demand it: a rule of the project.
 pub struct Token {
     item: u16,
     spent: bool,

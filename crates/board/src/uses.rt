@@ -1,6 +1,6 @@
 // How a board is used: a token is spent on every way.
 ghost use Rattle.std.specs.Prelude.{◌≡◌, length};
-ghost use Rattle.scratch.specs.Bytes.{after_call};
+ghost use Rattle.scratch.specs.Lending.{after_call};
 ghost use Rattle.model.specs.Boards.{lifted, set_at};
 ghost use Rattle.board.specs.Tokens.{back_answer};
 ghost use Rattle.board.specs.Boards.{atlas_of, board_of, Left};
@@ -31,6 +31,7 @@ pub fn set_or_back<I: Inventory>(
     ensures board { Left board.old (or_back (board_of board.old) token.item (set_at I.Inventory.meaning (atlas_of board.old) (board_of board.old) token.item place (length marks.old))) board.new }
     ensures marks { marks.new ≡ after_call marks.old }
 {
+    // By `map_err` it was tried: what the closure leaves of the board that it borrows was not proved.
     match board.set(token, place, marks) {
         Ok(()) => Ok(()),
         Err(Refused { why, token }) => {

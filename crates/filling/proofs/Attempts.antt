@@ -1,22 +1,22 @@
 -- From one item of an attempt to the next, and from one attempt to the next: what is left gives the whole.
-use Rattle.std.proofs.Common.{◌≡◌, ℕ, suc, ◌+◌, ◌-◌, ◌<◌, eqb, List, length, get_or, set, Some, None, Ok, sym, ap, ◌∙◌, subst, add-one, arith}
+use Rattle.std.proofs.Common.{◌≡◌, ℕ, suc, ◌+◌, ◌-◌, ◌<◌, ◌≤◌, eqb, List, length, get_or, set, Some, None, Ok, Err, sym, ap, ◌∙◌, add-one, arith}
 use Rattle.std.specs.List.{remove}
 use Rattle.std.proofs.lemmas.List.Edits.{length-remove}
 use Rattle.std.proofs.lemmas.Bool.{cond-true, cond-false, eq-eqb, ne_eqb}
 use Rattle.inventory.specs.Meaning.{Meaning}
 use Rattle.draw.specs.Source.{Source, Fair}
+use Rattle.model.specs.declared.board_refusal.BoardRefusal.TheVariants.{NoCandidate}
 use Rattle.model.specs.Worlds.{World as Atlas}
 use Rattle.model.specs.Placements.{Placement}
 use Rattle.model.specs.Boards.{unset}
 use Rattle.model.specs.Fills.{Outcome, complete, stuck, Filling, candidates, attempt, tries}
-use Rattle.filling.specs.Steps.{Fresh, picked, others, SetOne, SetNone}
+use Rattle.filling.specs.Steps.{picked, others, SetOne, SetNone}
 use Rattle.filling.specs.Filled.{idle, ending}
-use Rattle.filling.proofs.Freshly.{fresh_set}
 
 module _ (m : Meaning) (w : Atlas) (s : Source) where
   module _ (x : s.State) (p : Placement) (left : List ℕ) (some : 0 < length left) (x' : s.State) (p' : Placement) (left' : List ℕ) where
     -- an item without a candidate ends the attempt
-    pub item_ends : (item : ℕ) → SetNone m w s x p left x' p' left' item → ending m w s x p left ≡ stuck item x'
+    item_ends : (item : ℕ) → SetNone m w s x p left x' p' left' item → ending m w s x p left ≡ stuck item x'
     unfolding ending picked others
     item_ends item step =
         let n = length left - 1 in
@@ -32,13 +32,6 @@ module _ (m : Meaning) (w : Atlas) (s : Source) where
       pub item_fewer : length left' + 1 ≡ length left
       unfolding others
       item_fewer = ap (λ l. length l + 1) step.rest ∙ length-remove left _ (fair.below x (length left) some)
-
-      pub item_fresh : Fresh p left → Fresh p' left'
-      unfolding picked others
-      item_fresh fresh =
-          let j = s.drawn x (length left) in
-          let rest = remove left j in
-          subst (Fresh p') (sym step.rest) (subst (λ q. Fresh q rest) (sym step.placement) (fresh_set p left j _ (fair.below x (length left) some) fresh))
 
       -- with the others it goes on
       pub item_set : ending m w s x' p' left' ≡ ending m w s x p left
@@ -64,10 +57,6 @@ module _ (m : Meaning) (w : Atlas) (s : Source) where
   unfolding ending
   all_set x p left none = ap (λ n. attempt m w s n x p left) none
 
-  -- each attempt begins with the items that are not set
-  pub attempt_begins : (x : s.State) (start p : Placement) (left : List ℕ) → p ≡ start → left ≡ unset w p → ending m w s x start (unset w start) ≡ ending m w s x p left
-  attempt_begins x start p left same all = ap (λ q. ending m w s x q (unset w q)) (sym same) ∙ ap (ending m w s x p) (sym all)
-
   -- what follows the end of an attempt, the nth, with more of them to come
   abbrev judged : Placement → (more nth : ℕ) → Outcome s.State → Filling s.State
   judged p more nth o =
@@ -76,19 +65,30 @@ module _ (m : Meaning) (w : Atlas) (s : Source) where
         | stuck item x ↦ tries m w s (idle p) more (suc nth) x item
       ]
 
-  module _ (p : Placement) (attempts failed : ℕ) (x : s.State) (last : ℕ) (more : failed < attempts) where
-    pub attempt_fails : (item : ℕ) (x' : s.State) → ending m w s x p (unset w p) ≡ stuck item x' →
-        tries m w s (idle p) (attempts - (failed + 1)) (failed + 1 + 1) x' item ≡ tries m w s (idle p) (attempts - failed) (failed + 1) x last
+  module _ (p : Placement) (attempts nth : ℕ) (x : s.State) (last : ℕ) (more : nth ≤ attempts) where
+    attempt_fails : (item : ℕ) (x' : s.State) → ending m w s x p (unset w p) ≡ stuck item x' →
+        tries m w s (idle p) (attempts + 1 - (nth + 1)) (nth + 1) x' item ≡ tries m w s (idle p) (attempts + 1 - nth) nth x last
     unfolding ending
     attempt_fails item x' e =
-        let rest = attempts - (failed + 1) in
-        let one : attempts - failed ≡ suc rest = omega arith in
-        ap (λ n. tries m w s (idle p) rest n x' item) (add-one (failed + 1)) ∙ sym (ap (λ n. tries m w s (idle p) n (failed + 1) x last) one ∙ ap (judged p rest (failed + 1)) e)
+        let rest = attempts - nth in
+        let one : attempts + 1 - nth ≡ suc rest = omega arith in
+        let fewer : attempts + 1 - (nth + 1) ≡ rest = omega arith in
+        ap (λ k. tries m w s (idle p) k (nth + 1) x' item) fewer ∙ ap (λ n. tries m w s (idle p) rest n x' item) (add-one nth) ∙ sym (ap (λ n. tries m w s (idle p) n nth x last) one ∙ ap (judged p rest nth) e)
+
+    -- an attempt that was left at an item
+    pub attempt_left : (q : Placement) (y : s.State) (left : List ℕ) → ending m w s y q left ≡ ending m w s x p (unset w p) → 0 < length left →
+        (x' : s.State) (p' : Placement) (left' : List ℕ) (item : ℕ) → SetNone m w s y q left x' p' left' item →
+        tries m w s (idle p) (attempts + 1 - (nth + 1)) (nth + 1) x' item ≡ tries m w s (idle p) (attempts + 1 - nth) nth x last
+    attempt_left q y left same some x' p' left' item step = attempt_fails item x' (sym same ∙ item_ends y q left some x' p' left' item step)
 
     pub attempt_fills : (p' : Placement) (x' : s.State) → ending m w s x p (unset w p) ≡ complete p' x' →
-        tries m w s (idle p) (attempts - failed) (failed + 1) x last ≡ record { answer = Ok (failed + 1); board = idle p'; state = x' }
+        tries m w s (idle p) (attempts + 1 - nth) nth x last ≡ record { answer = Ok nth; board = idle p'; state = x' }
     unfolding ending
     attempt_fills p' x' e =
-        let rest = attempts - (failed + 1) in
-        let one : attempts - failed ≡ suc rest = omega arith in
-        ap (λ n. tries m w s (idle p) n (failed + 1) x last) one ∙ ap (judged p rest (failed + 1)) e
+        let rest = attempts - nth in
+        let one : attempts + 1 - nth ≡ suc rest = omega arith in
+        ap (λ n. tries m w s (idle p) n nth x last) one ∙ ap (judged p rest nth) e
+
+  -- no attempt is left
+  pub all_fail : (p : Placement) (n nth : ℕ) (x : s.State) (last : ℕ) → n ≡ 0 → tries m w s (idle p) n nth x last ≡ record { answer = Err (NoCandidate last); board = idle p; state = x }
+  all_fail p n nth x last none = ap (λ k. tries m w s (idle p) k nth x last) none

@@ -1,20 +1,19 @@
 -- The items that are left lie nowhere, at the start of an attempt and after each item that is set.
-use Rattle.std.proofs.Common.{◌≡◌, ℕ, zero, suc, ◌+◌, ◌<◌, ◌≤◌, true, false, not, eqb, ltb, List, [], ◌∷◌, length, get_or, set, Some, None, filter, Option, sym, refl, ap, ◌∙◌, inl, inr, le_of_suc-le-suc, not-suc-le-zero, arith}
-use Rattle.std.specs.List.{remove, range_with_len, AllByRecursion}
+use Rattle.std.proofs.Common.{◌≡◌, ℕ, zero, suc, ◌+◌, ◌<◌, ◌≤◌, true, false, not, eqb, ltb, List, [], ◌∷◌, length, get_or, set, Some, None, filter, Option, sym, ap, ◌∙◌, inl, inr, le_of_suc-le-suc, not-suc-le-zero, arith}
+use Rattle.std.specs.List.{insert, remove, range_with_len, AllByRecursion}
 use Rattle.std.proofs.lemmas.List.{set_past}
 use Rattle.std.proofs.ByRecursion.{All-get_or, all_kept_by}
 use Rattle.std.proofs.lemmas.Bool.{cases_lt, not-true, ne_eqb, lt-ltb, le-ltb, or_parts, or_from, cond-true, cond-false, cond_both}
 use Rattle.model.specs.Worlds.{World as Atlas}
 use Rattle.model.specs.Placements.{Placement, item_at}
 use Rattle.model.specs.Boards.{no_item, is_item, is_set, unset}
-use Rattle.sheet.specs.Records as records
 use Rattle.sheet.specs.declared.refusal.PlaceRefusal.{PlaceRefusal}
 use Rattle.sheet.specs.declared.refusal.PlaceRefusal.TheVariants.{NoPlace}
 use Rattle.sheet.specs.Changes.{unless, laid, left_by}
-use Rattle.filling.specs.Steps.{Fresh}
-use Rattle.filling.proofs.Passing.{same_set}
+use Rattle.draw.specs.Source.{Source, Fair}
+use Rattle.filling.specs.Steps.{Fresh, picked, others}
 
-pub fresh_item : (p : Placement) (left : List ℕ) (j : ℕ) → j < length left → Fresh p left → (get_or left j 0 < 256) × (is_set p (get_or left j 0) ≡ false)
+fresh_item : (p : Placement) (left : List ℕ) (j : ℕ) → j < length left → Fresh p left → (get_or left j 0 < 256) × (is_set p (get_or left j 0) ≡ false)
 unfolding Fresh
 fresh_item p [] j h fresh = absurd (not-suc-le-zero h)
 fresh_item p (i ∷ left) zero h fresh = (fresh.0, fresh.1)
@@ -51,10 +50,30 @@ fresh_removed p (i ∷ left) (suc j) h fresh =
     let other = All-get_or (λ k. i ≡ k → ⊥) left j 0 below fresh.2 in
     ((fresh.0, fresh.1, all_removed (λ k. i ≡ k → ⊥) left j fresh.2, rest.0), (λ e. other (sym e), rest.1))
 
+-- an item that is put back where it was taken out leaves the list as it was
+pub put_back : (xs : List ℕ) (j item : ℕ) → j < length xs → item ≡ get_or xs j item → insert (remove xs j) j item ≡ xs
+put_back [] j item h is = absurd (not-suc-le-zero h)
+put_back (x ∷ xs) zero item h is = ap (λ y. y ∷ xs) is
+put_back (x ∷ xs) (suc j) item h is = ap (λ l. x ∷ l) (put_back xs j item (le_of_suc-le-suc h) is)
+
 -- one of the items is set, and the others stay fresh
-pub fresh_set : (p : Placement) (left : List ℕ) (j k : ℕ) → j < length left → Fresh p left → Fresh (set p k (Some (get_or left j 0))) (remove left j)
+fresh_set : (p : Placement) (left : List ℕ) (j k : ℕ) → j < length left → Fresh p left → Fresh (set p k (Some (get_or left j 0))) (remove left j)
 fresh_set p left j k h fresh =
     let rest = fresh_removed p left j h fresh in fresh_kept p k (get_or left j 0) (remove left j) rest.1 rest.0
+
+-- an item is drawn, and what is known of it and of the others
+module _ (s : Source) (fair : Fair s) (x : s.State) (p : Placement) (left : List ℕ) (some : 0 < length left) (fresh : Fresh p left) where
+  pub picked_fresh : (picked s x left < 256) × (is_set p (picked s x left) ≡ false)
+  unfolding picked
+  picked_fresh = fresh_item p left _ (fair.below x (length left) some) fresh
+
+  pub others_fresh : Fresh p (others s x left)
+  unfolding others
+  others_fresh = (fresh_removed p left _ (fair.below x (length left) some) fresh).0
+
+  pub set_fresh : (k : ℕ) → Fresh (set p k (Some (picked s x left))) (others s x left)
+  unfolding picked others
+  set_fresh k = fresh_set p left _ k (fair.below x (length left) some) fresh
 
 later : (a b n : ℕ) → a < b → AllByRecursion (λ k. a ≡ k → ⊥) (range_with_len b n)
 later a b zero h = tt
@@ -74,10 +93,6 @@ pub fresh_unset : (w : Atlas) (p : Placement) → length w.pool ≤ 256 → Fres
 unfolding unset
 fresh_unset w p few = fresh_from p 0 (length w.pool) (omega arith)
 
-none_same : (o : Option ℕ) → records.no_item o ≡ no_item o
-none_same None = refl
-none_same (Some i) = refl
-
 -- what a table holds once an item that lies nowhere is laid down at an empty place, or at none that it has
 pub laid_down : (p : Placement) (k i : ℕ) → no_item (item_at p k) ≡ true → i < 256 → is_set p i ≡ false → left_by (laid p k i) p ≡ set p k (Some i)
 laid_down p k i empty small none =
@@ -85,8 +100,8 @@ laid_down p k i empty small none =
     elim (cases_lt k (length p)) [
       | inl there ↦ ap after
           (cond-true (ltb k (length p)) _ _ (lt-ltb k (length p) there)
-          ∙ cond-true (records.no_item (item_at p k)) _ _ (none_same (item_at p k) ∙ empty)
+          ∙ cond-true (no_item (item_at p k)) _ _ empty
           ∙ cond-true (ltb i 256) _ _ (lt-ltb i 256 small)
-          ∙ cond-false (records.is_set p i) _ None (same_set p i ∙ none))
+          ∙ cond-false (is_set p i) _ None none)
       | inr past ↦ ap after (cond-false (ltb k (length p)) _ (Some NoPlace) (le-ltb k (length p) past)) ∙ sym (set_past p k (Some i) past)
     ]

@@ -1,4 +1,4 @@
-pub mod Gaps
+pub mod Listing
 pub mod Passing
 pub mod Freshly
 pub mod Attempts

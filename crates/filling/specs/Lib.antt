@@ -1,3 +1,3 @@
-pub mod Items
+pub mod Passing
 pub mod Steps
 pub mod Filled

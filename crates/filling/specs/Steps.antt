@@ -1,6 +1,7 @@
 -- One item of an attempt: which is drawn, and where it is set.
 use Rattle.std.specs.Prelude.{◌≡◌, ℕ, ◌<◌, Bool, false, ◌&&◌, List, [], ◌∷◌, length, Some, filter, ◌≢◌, slice_index, slice_set}
 use Rattle.std.specs.List.{remove, range_with_len, AllByRecursion}
+use Rattle.std.proofs.Props.{props}
 use Rattle.inventory.specs.Meaning.{Meaning}
 use Rattle.draw.specs.Source.{Source}
 use Rattle.model.specs.Marks.{at}
@@ -21,6 +22,12 @@ empty_marked w p g = filter (fits_at p g) (range_with_len 0 (length w.places))
 unfoldable pub Fresh : Placement → List ℕ → Type 0
 Fresh p [] = Unit {0}
 Fresh p (i ∷ left) = (i < 256) × (is_set p i ≡ false) × AllByRecursion (λ j. i ≢ j) left × Fresh p left
+
+-- it has one proof at most, as a ghost field needs
+pub Fresh-prop : (p : Placement) (left : List ℕ) → IsProp (Fresh p left)
+unfolding Fresh
+Fresh-prop p [] = Prim.hlevel props
+Fresh-prop p (i ∷ left) = let rest = Fresh-prop p left in Prim.hlevel (props, rest)
 
 module _ (s : Source) (x : s.State) (left : List ℕ) where
   -- the item that is drawn

@@ -1,50 +1,23 @@
 // What is gathered where the items that are left count as held.
-ghost use Rattle.std.specs.Prelude.{◌≡◌, slice_index};
-ghost use Rattle.scratch.specs.Marks.{SameLoan};
-ghost use Rattle.model.specs.Worlds.{with_items};
+ghost use Rattle.std.specs.Prelude.{◌≡◌};
 ghost use Rattle.model.specs.Boards.{gathered_with};
 ghost use Rattle.world.specs.Worlds.{world_of};
 ghost use Rattle.explore.specs.Marked.{places_in};
-ghost use Rattle.sheet.specs.Tables.{placement_of};
-ghost use Rattle.filling.specs.Items.{left_in};
 
-use crate::items::Items;
-use explore::{mark_gathered, stock_value};
+use crate::attempt::Attempt;
+use explore::Player;
 use inventory::Inventory;
-use scratch::Marks;
-use sheet::PlaceTable;
-use world::World;
+use scratch::{Places, Regions};
 
-// The code of an item; 0 where the pool has no such item.
-fn code_of(world: &World, item: usize) -> u16
-    ensures { result ≡ slice_index (world_of world.now).pool item }
-{
-    match world.pool().get(item) {
-        Some(code) => *code,
-        None => 0,
+impl Attempt<'_> {
+    // Marks the places gathered from the stock joined with the items that are left.
+    pub(crate) fn gather<I: Inventory>(&self, regions: &mut Regions, places: &mut Places)
+        ensures { places_in (world_of self.now.world.now) places.new ≡ gathered_with I.Inventory.meaning (world_of self.now.world.now) self.now.table self.now.left.items }
+    {
+        let mut player = Player::<I>::with_stock(self.world);
+        for item in self.left.as_slice() {
+            player.add_item(*item);
+        }
+        player.mark_gathered(self.table.placement(), regions, places);
     }
-}
-
-// Joins each of the items on.
-fn add_items<I: Inventory>(world: &World, items: &[u16], value: &mut I)
-    ensures { I.Inventory.value value.new ≡ with_items I.Inventory.meaning (world_of world.now) (I.Inventory.value value.old) items.now }
-{
-    for item in items {
-        value.add(code_of(world, *item as usize));
-    }
-}
-
-// Marks the places gathered from the stock joined with the items that are left.
-pub(crate) fn gather_with<I: Inventory>(
-    world: &World,
-    places: &PlaceTable,
-    left: &Items,
-    marks: &mut Marks,
-)
-    ensures places { places_in (world_of world.now) marks.new ≡ gathered_with I.Inventory.meaning (world_of world.now) (placement_of places.now) (left_in left.now) }
-    ensures loan { SameLoan marks.old marks.new }
-{
-    let mut value: I = stock_value(world);
-    add_items(world, left.listed(), &mut value);
-    mark_gathered(world, places.placement(), &value, marks);
 }

@@ -1,15 +1,12 @@
 // The attempts of a fill.
-ghost use Rattle.scratch.specs.Marks.{SameLoan};
 ghost use Rattle.world.specs.Worlds.{world_of};
-ghost use Rattle.sheet.specs.Tables.{placement_of};
 ghost use Rattle.filling.specs.Filled.{Filled};
 
+use crate::attempt::Attempt;
 use crate::no_candidate::NoCandidate;
-use crate::steps::set_one;
-use crate::unset::unset_items;
 use draw::DrawSource;
 use inventory::Inventory;
-use scratch::Marks;
+use scratch::{Places, Regions};
 use sheet::PlaceTable;
 use world::World;
 
@@ -17,28 +14,30 @@ use world::World;
 // without a candidate, the item of the last is answered, the table is as it was, and the source has spent its draws.
 pub fn fill_places<I: Inventory, S: DrawSource>(
     world: &World,
-    places: &mut PlaceTable,
+    table: &mut PlaceTable,
     source: &mut S,
     attempts: u16,
-    marks: &mut Marks,
+    regions: &mut Regions,
+    places: &mut Places,
 ) -> Result<u16, NoCandidate>
-    ensures filled { Filled I.Inventory.meaning (world_of world.now) S.DrawSource.draws attempts (S.DrawSource.state source.old) (placement_of places.old) result (S.DrawSource.state source.new) (placement_of places.new) }
-    ensures loan { SameLoan marks.old marks.new }
+    ensures { Filled I.Inventory.meaning (world_of world.now) S.DrawSource.draws attempts (S.DrawSource.state source.old) table.old result (S.DrawSource.state source.new) table.new }
 {
-    let start = *places;
-    let mut last = NoCandidate { item: 0 };
-    'attempts: for failed in 0..attempts {
-        let mut left = unset_items(world, places);
+    let mut last = None;
+    // The loops have labels by a rule of the project: an attempt is left, by name, at an item without a candidate.
+    'attempts: for nth in 1..=attempts {
+        let mut attempt = Attempt::begin(world, *table);
         'items: loop {
-            if left.count() == 0 {
-                return Ok(failed + 1);
+            if attempt.left.is_empty() {
+                *table = attempt.table;
+                return Ok(nth);
             }
-            if let Err(none) = set_one::<I, S>(world, places, &mut left, source, marks) {
-                last = none;
+            // No `?`: the next attempt follows.
+            if let Err(none) = attempt.set_one::<I, S>(source, regions, places) {
+                last = Some(none);
                 break 'items;
             }
         }
-        *places = start;
     }
-    Err(last)
+    // Where no attempt is to be made, the definition names item 0.
+    Err(last.unwrap_or(NoCandidate { item: 0 }))
 }

@@ -2,10 +2,11 @@
 #![tactic(auto)]
 
 mod assumed;
+mod attempt;
 mod candidates;
 mod fill;
-mod items;
 mod no_candidate;
+mod numbers;
 mod steps;
 mod unset;
 

@@ -1,83 +1,64 @@
 // One item of an attempt: it is drawn, and then a candidate for it.
-ghost use Rattle.std.specs.Prelude.{◌≡◌, ◌<◌, true, false, length, Some, MatchResult, slice_index, slice_set};
-ghost use Rattle.scratch.specs.Marks.{SameLoan};
+ghost use Rattle.std.specs.Prelude.{◌≡◌, ◌<◌, ◌≤◌, true, false, length, Some, MatchResult, slice_set, insert};
 ghost use Rattle.model.specs.Placements.{item_at};
 ghost use Rattle.model.specs.Boards.{no_item, is_set};
 ghost use Rattle.world.specs.Worlds.{world_of};
-ghost use Rattle.explore.specs.Marked.{places_in};
-ghost use Rattle.sheet.specs.Tables.{placement_of};
-ghost use Rattle.filling.specs.Items.{left_in};
-ghost use Rattle.filling.specs.Steps.{empty_marked, Fresh, picked, others as rest, SetOne, SetNone};
+ghost use Rattle.filling.specs.Steps.{picked, others as rest, SetOne, SetNone};
 
-use crate::candidates::{find_candidates, nth_marked};
-use crate::items::Items;
+use crate::attempt::Attempt;
 use crate::no_candidate::NoCandidate;
-use draw::DrawSource;
+use arrayvec::ArrayVec;
+use draw::{DrawSource, Drawn};
 use inventory::Inventory;
-use scratch::Marks;
+use scratch::{Places, Regions};
 use sheet::PlaceTable;
-use world::World;
 
-// Draws an item and takes it out of the list.
-fn pick<S: DrawSource>(source: &mut S, left: &mut Items) -> u16
-    requires { 0 < length (left_in left.old) }
-    ensures item { result ≡ picked S.DrawSource.draws (S.DrawSource.state source.old) (left_in left.old) }
-    ensures others { left_in left.new ≡ rest S.DrawSource.draws (S.DrawSource.state source.old) (left_in left.old) }
-    ensures state { S.DrawSource.state source.new ≡ S.DrawSource.draws.after (S.DrawSource.state source.old) (length (left_in left.old)) }
+// Draws one of a list and takes it out; the others keep their order. It is the dealing of a list of fixed room, of which
+// there is one at least: the library has no trait for taking out of both kinds of list.
+fn pick<S: DrawSource>(source: &mut S, left: &mut ArrayVec<u16, 256>) -> Drawn<u16>
+    requires { 0 < length left.old.items }
+    ensures few { length left.new.items < 256 }
+    ensures index { result.index ≤ length left.new.items }
+    ensures back { insert left.new.items result.index result.item ≡ left.old.items }
+    ensures item { result.item ≡ picked S.DrawSource.draws (S.DrawSource.state source.old) left.old.items }
+    ensures others { left.new.items ≡ rest S.DrawSource.draws (S.DrawSource.state source.old) left.old.items }
+    ensures state { S.DrawSource.state source.new ≡ S.DrawSource.draws.after (S.DrawSource.state source.old) (length left.old.items) }
 {
-    let index = source.draw(left.count());
-    left.remove(index as usize)
+    let index = source.draw(left.len() as u16);
+    let item = left.remove(index as usize);
+    Drawn { index, item }
 }
 
-// Draws one of the places that are empty and marked, of which there are `found`.
-fn draw_place<S: DrawSource>(
-    world: &World,
-    places: &PlaceTable,
-    source: &mut S,
-    found: u16,
-    marks: &Marks,
-) -> usize
-    requires some { 0 < found }
-    requires count { found ≡ length (empty_marked (world_of world.now) (placement_of places.now) (places_in (world_of world.now) marks.now)) }
-    ensures place { result ≡ slice_index (empty_marked (world_of world.now) (placement_of places.now) (places_in (world_of world.now) marks.now)) (S.DrawSource.draws.drawn (S.DrawSource.state source.old) found) }
-    ensures state { S.DrawSource.state source.new ≡ S.DrawSource.draws.after (S.DrawSource.state source.old) found }
-    ensures empty { no_item (item_at (placement_of places.now) result) ≡ true }
-{
-    let index = source.draw(found);
-    nth_marked(world, places, index, marks)
-}
-
-// Sets an item that lies nowhere. A place that the table does not have takes none.
-fn lay(places: &mut PlaceTable, place: usize, item: u16)
-    requires empty { no_item (item_at (placement_of places.old) place) ≡ true }
+// Sets an item that lies nowhere. A table of another world may not have the place: then the item lies nowhere still.
+fn lay(table: &mut PlaceTable, place: usize, item: u16)
+    requires empty { no_item (item_at table.old place) ≡ true }
     requires small { item < 256 }
-    requires unset { is_set (placement_of places.old) item ≡ false }
-    ensures { placement_of places.new ≡ slice_set (placement_of places.old) place (Some item) }
+    requires unset { is_set table.old item ≡ false }
+    ensures { table.new ≡ slice_set table.old place (Some item) }
 {
-    let _ = places.set(place, item);
+    let _ = table.set(place, item);
 }
 
-// Sets one item; the others that are left count as held meanwhile.
-pub(crate) fn set_one<I: Inventory, S: DrawSource>(
-    world: &World,
-    places: &mut PlaceTable,
-    left: &mut Items,
-    source: &mut S,
-    marks: &mut Marks,
-) -> Result<(), NoCandidate>
-    requires some { 0 < length (left_in left.old) }
-    requires fresh { Fresh (placement_of places.old) (left_in left.old) }
-    ensures step { MatchResult result (λ _. SetOne I.Inventory.meaning (world_of world.now) S.DrawSource.draws (S.DrawSource.state source.old) (placement_of places.old) (left_in left.old) (S.DrawSource.state source.new) (placement_of places.new) (left_in left.new)) (λ e. SetNone I.Inventory.meaning (world_of world.now) S.DrawSource.draws (S.DrawSource.state source.old) (placement_of places.old) (left_in left.old) (S.DrawSource.state source.new) (placement_of places.new) (left_in left.new) e.item) }
-    ensures loan { SameLoan marks.old marks.new }
-{
-    let mut others = *left;
-    let item = pick(source, &mut others);
-    let found = find_candidates::<I>(world, places, &others, marks);
-    if found == 0 {
-        return Err(NoCandidate { item });
+impl Attempt<'_> {
+    // Sets one item; the others that are left count as held meanwhile.
+    pub(crate) fn set_one<I: Inventory, S: DrawSource>(
+        &mut self,
+        source: &mut S,
+        regions: &mut Regions,
+        places: &mut Places,
+    ) -> Result<(), NoCandidate>
+        requires some { 0 < length self.old.left.items }
+        ensures step { MatchResult result (λ _. SetOne I.Inventory.meaning (world_of self.old.world.now) S.DrawSource.draws (S.DrawSource.state source.old) self.old.table self.old.left.items (S.DrawSource.state source.new) self.new.table self.new.left.items) (λ e. SetNone I.Inventory.meaning (world_of self.old.world.now) S.DrawSource.draws (S.DrawSource.state source.old) self.old.table self.old.left.items (S.DrawSource.state source.new) self.new.table self.new.left.items e.item) }
+        ensures world { self.new.world ≡ self.old.world }
+    {
+        let Drawn { index, item } = pick(source, &mut self.left);
+        let mut found = self.candidates::<I>(regions, places);
+        if found.is_empty() {
+            self.left.insert(index as usize, item);
+            return Err(NoCandidate { item });
+        }
+        let place = pick(source, &mut found).item;
+        lay(&mut self.table, place as usize, item);
+        Ok(())
     }
-    let place = draw_place(world, places, source, found, marks);
-    lay(places, place, item);
-    *left = others;
-    Ok(())
 }

@@ -2,24 +2,15 @@
 ghost use Rattle.std.specs.Prelude.{◌≡◌};
 ghost use Rattle.model.specs.Boards.{unset};
 ghost use Rattle.world.specs.Worlds.{world_of};
-ghost use Rattle.sheet.specs.Tables.{placement_of};
-ghost use Rattle.filling.specs.Items.{left_in};
 
-use crate::items::Items;
+use crate::numbers::numbers_where;
+use arrayvec::ArrayVec;
 use sheet::PlaceTable;
 use world::World;
 
 // The items of the pool that are not set, in rising number.
-pub(crate) fn unset_items(world: &World, places: &PlaceTable) -> Items
-    ensures { left_in result ≡ unset (world_of world.now) (placement_of places.now) }
+pub(crate) fn unset_items(world: &World, table: &PlaceTable) -> ArrayVec<u16, 256>
+    ensures { result.items ≡ unset (world_of world.now) table.now }
 {
-    let mut items = Items::new();
-    let count = world.pool().len() as u16;
-    for item in 0..count {
-        if places.is_set(item) {
-            continue;
-        }
-        items.push(item);
-    }
-    items
+    numbers_where(world.pool().len() as u16, |item| !table.is_set(*item))
 }

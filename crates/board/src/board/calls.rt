@@ -5,11 +5,11 @@ ghost use Rattle.board.specs.Tokens.{lift_answer, back_answer};
 ghost use Rattle.board.specs.Boards.{atlas_of, board_of, Left};
 
 use super::Board;
-use crate::refusal::from_table;
 use crate::token::Token;
 use inventory::Inventory;
 use model::BoardRefusal;
 
+#[tactic(auto, unfolding(crate::specs::Boards::board_of, crate::specs::Boards::atlas_of))]
 impl<'w, I: Inventory> Board<'w, I> {
     // Takes an item of the pool in hand; its token has to be set or put back.
     pub fn lift(&mut self, item: u16) -> Result<Token, BoardRefusal>
@@ -48,9 +48,6 @@ impl<'w, I: Inventory> Board<'w, I> {
         ensures answer { result ≡ taken_up (atlas_of self.old) (board_of self.old) place }
         ensures board { Left self.old (after_take_up (atlas_of self.old) (board_of self.old) place) self.new }
     {
-        match self.layout.table.take_up(place as usize) {
-            Ok(item) => Ok(item),
-            Err(why) => Err(from_table(why)),
-        }
+        Ok(self.layout.table.take_up(place as usize)?)
     }
 }

@@ -5,7 +5,7 @@ ghost use Rattle.world.specs.Worlds.{world_of};
 ghost use Rattle.board.specs.Boards.{Made};
 
 use super::{Board, Layout};
-use explore::{add_pool, goal_met, stock_value};
+use explore::Player;
 use inventory::Inventory;
 use model::BoardRefusal;
 use sheet::PlaceTable;
@@ -16,11 +16,12 @@ use world::World;
 fn can_meet_goal<I: Inventory>(world: &World) -> bool
     ensures { result ≡ goal_met I.Inventory.meaning (world_of world.now) }
 {
-    let mut value: I = stock_value(world);
-    add_pool(world, &mut value);
-    goal_met(world, &value)
+    let mut player = Player::<I>::with_stock(world);
+    player.add_pool();
+    player.meets_goal()
 }
 
+#[tactic(auto, unfolding(crate::specs::Boards::board_of, crate::specs::Boards::atlas_of))]
 impl<'w, I: Inventory> Board<'w, I> {
     // A board with nothing set and nothing in hand.
     pub fn make(world: &'w World) -> Result<Board<'w, I>, BoardRefusal>

@@ -3,7 +3,6 @@ ghost use Rattle.std.specs.Prelude.{◌≡◌, length};
 ghost use Rattle.world.specs.Worlds.{world_of};
 ghost use Rattle.model.specs.Placements.{item_at};
 ghost use Rattle.model.specs.Boards.{is_item, is_set};
-ghost use Rattle.sheet.specs.Tables.{placement_of};
 ghost use Rattle.board.specs.Boards.{atlas_of, board_of};
 
 use super::Board;
@@ -11,6 +10,7 @@ use inventory::Inventory;
 use sheet::Sheet;
 use world::World;
 
+#[tactic(auto, unfolding(crate::specs::Boards::board_of, crate::specs::Boards::atlas_of))]
 impl<'w, I: Inventory> Board<'w, I> {
     // The world that the board is of.
     pub fn world(&self) -> &'w World
@@ -35,7 +35,7 @@ impl<'w, I: Inventory> Board<'w, I> {
 
     // A copy of the placement; the board goes on without it.
     pub fn sheet(&self) -> Sheet
-        ensures { placement_of result.table ≡ (board_of self.now).placement }
+        ensures { result.table ≡ (board_of self.now).placement }
     {
         Sheet {
             table: self.layout.table,
@@ -53,10 +53,7 @@ impl<'w, I: Inventory> Board<'w, I> {
     pub(super) fn holds(&self, item: u16) -> bool
         ensures { result ≡ is_item item (board_of self.now).hand }
     {
-        match self.layout.hand {
-            Some(other) => item == other,
-            None => false,
-        }
+        self.layout.hand == Some(item)
     }
 
     // Whether the item lies at some place.

@@ -1,7 +1,7 @@
 // Setting the item in hand at a place.
-ghost use Rattle.std.specs.Prelude.{◌≡◌, ◌<◌, true, not, ◌&&◌, length, set, Some, None, slice_set};
-ghost use Rattle.scratch.specs.Bytes.{after_call};
-ghost use Rattle.scratch.specs.Marks.{SameLoan};
+ghost use Rattle.std.specs.Prelude.{◌≡◌, ◌<◌, true, not, ◌&&◌, length, Some, None, slice_set};
+ghost use Rattle.std.specs.Result.{result_err};
+ghost use Rattle.scratch.specs.Lending.{work_marks, after_call};
 ghost use Rattle.model.specs.Marks.{at};
 ghost use Rattle.model.specs.Worlds.{stocked, with_items};
 ghost use Rattle.model.specs.Placements.{item_at};
@@ -11,11 +11,12 @@ ghost use Rattle.board.specs.Boards.{atlas_of, board_of, Left};
 
 use super::Board;
 use crate::token::{Refused, Token};
-use explore::{is_marked, mark_gathered, stock_value};
+use explore::{Player, is_marked};
 use inventory::Inventory;
 use model::BoardRefusal;
-use scratch::{Marks, WORK_MARKS};
+use scratch::{Places, Regions, with_marks};
 
+#[tactic(auto, unfolding(crate::specs::Boards::board_of, crate::specs::Boards::atlas_of))]
 impl<'w, I: Inventory> Board<'w, I> {
     // Whether the item is neither set nor in hand.
     fn is_loose(&self, item: u16) -> bool
@@ -24,52 +25,65 @@ impl<'w, I: Inventory> Board<'w, I> {
         !self.is_set(item) && !self.holds(item)
     }
 
-    // The value of the stock and the loose items.
-    fn loose_value(&self) -> I
-        ensures { I.Inventory.value result ≡ with_items I.Inventory.meaning (atlas_of self.now) (stocked I.Inventory.meaning (atlas_of self.now)) (loose (atlas_of self.now) (board_of self.now)) }
+    // A player who holds the stock and the loose items.
+    fn with_loose(&self) -> Player<'w, I>
+        ensures world { result.world ≡ self.now.world }
+        ensures held { I.Inventory.value result.held ≡ with_items I.Inventory.meaning (atlas_of self.now) (stocked I.Inventory.meaning (atlas_of self.now)) (loose (atlas_of self.now) (board_of self.now)) }
     {
-        let mut value: I = stock_value(self.world);
-        let pool = self.world.pool();
-        for item in 0..pool.len() {
-            if self.is_loose(item as u16) {
-                value.add(pool[item]);
+        let mut player = Player::with_stock(self.world);
+        // Items go by their number. A `filter` here was tried: the check could not state its loop.
+        for item in 0..self.world.pool().len() as u16 {
+            if self.is_loose(item) {
+                player.add_item(item);
             }
         }
-        value
+        player
     }
 
     // Whether a place is gathered from the stock and the loose items.
-    fn gathers(&self, place: u16, marks: &mut Marks) -> bool
-        ensures answer { result ≡ at (gathered_with I.Inventory.meaning (atlas_of self.now) (board_of self.now).placement (loose (atlas_of self.now) (board_of self.now))) place }
-        ensures loan { SameLoan marks.old marks.new }
+    fn gathers(&self, place: u16, regions: &mut Regions, places: &mut Places) -> bool
+        ensures { result ≡ at (gathered_with I.Inventory.meaning (atlas_of self.now) (board_of self.now).placement (loose (atlas_of self.now) (board_of self.now))) place }
     {
-        let value = self.loose_value();
-        mark_gathered(self.world, self.layout.table.placement(), &value, marks);
-        is_marked(self.world, place as usize, marks)
+        self.with_loose()
+            .mark_gathered(self.layout.table.placement(), regions, places);
+        is_marked(self.world, place as usize, places)
     }
 
-    // Why the item cannot be set at the place, if it cannot.
-    fn set_refusal(&self, item: u16, place: u16, lent: &mut [u8]) -> Option<BoardRefusal>
-        ensures answer { result ≡ refusal_of (set_at I.Inventory.meaning (atlas_of self.now) (board_of self.now) item place (length lent.old)) }
-        ensures marks { lent.new ≡ after_call lent.old }
+    // Whether the item can be set at the place, asked with marks of which there are enough.
+    fn check_place(
+        &self,
+        item: u16,
+        place: u16,
+        regions: &mut Regions,
+        places: &mut Places,
+    ) -> Result<(), BoardRefusal>
+        ensures { result_err result ≡ refusal_of (set_at I.Inventory.meaning (atlas_of self.now) (board_of self.now) item place work_marks) }
     {
-        if lent.len() < WORK_MARKS {
-            return Some(BoardRefusal::FewMarks);
-        }
-        let mut marks = Marks { bytes: lent };
         if !self.holds(item) {
-            return Some(BoardRefusal::NotInHand);
+            return Err(BoardRefusal::NotInHand);
         }
         if place as usize >= self.place_count() {
-            return Some(BoardRefusal::NoPlace);
+            return Err(BoardRefusal::NoPlace);
         }
         if self.item_at(place).is_some() {
-            return Some(BoardRefusal::PlaceTaken);
+            return Err(BoardRefusal::PlaceTaken);
         }
-        if !self.gathers(place, &mut marks) {
-            return Some(BoardRefusal::NotGathered);
+        if !self.gathers(place, regions, places) {
+            return Err(BoardRefusal::NotGathered);
         }
-        None
+        Ok(())
+    }
+
+    // Whether the item can be set at the place.
+    fn check_set(&self, item: u16, place: u16, lent: &mut [u8]) -> Result<(), BoardRefusal>
+        ensures answer { result_err result ≡ refusal_of (set_at I.Inventory.meaning (atlas_of self.now) (board_of self.now) item place (length lent.old)) }
+        ensures marks { lent.new ≡ after_call lent.old }
+    {
+        // The closure has a name of its own: passed as written, it tells the check nothing of its answer.
+        let check = |regions: &mut Regions, places: &mut Places| {
+            self.check_place(item, place, regions, places)
+        };
+        with_marks(lent, check).unwrap_or(Err(BoardRefusal::FewMarks))
     }
 
     // Lays the item in hand down at an empty place.
@@ -79,7 +93,7 @@ impl<'w, I: Inventory> Board<'w, I> {
         requires empty { no_item (item_at (board_of self.old).placement place) ≡ true }
         ensures { Left self.old (record { placement = slice_set (board_of self.old).placement place (Some item); hand = None }) self.new }
     {
-        let _ = self.layout.table.set(place as usize, item);
+        self.layout.table.set(place as usize, item).unwrap();
         self.layout.hand = None;
     }
 
@@ -90,13 +104,12 @@ impl<'w, I: Inventory> Board<'w, I> {
         ensures marks { marks.new ≡ after_call marks.old }
     {
         let item = token.item();
-        match self.set_refusal(item, place, marks) {
-            Some(why) => Err(Refused { why, token }),
-            None => {
-                self.put(item, place);
-                token.spend();
-                Ok(())
-            }
+        // No `?` here: the token has to go back with the refusal, and may be dropped on neither way.
+        if let Err(why) = self.check_set(item, place, marks) {
+            return Err(Refused { why, token });
         }
+        self.put(item, place);
+        token.spend();
+        Ok(())
     }
 }

@@ -1,86 +1,100 @@
-use Rattle.std.proofs.Common.{◌≡◌, ◌<◌, length, sym, refl, ap, ◌∙◌, subst, arith}
+use Rattle.std.proofs.Common.{◌+◌, ◌<◌, length, sym, refl, ◌∙◌, arith, eqb-true, false-eqb}
 use Rattle.world.specs.Worlds.{world_of}
-use Rattle.explore.proofs.Known.{proper_world, on_loan}
-use Rattle.sheet.specs.Tables.{placement_of}
-use Rattle.filling.specs.Items.{left_in}
-use Rattle.filling.specs.Steps.{Fresh}
-use Rattle.filling.proofs.Freshly.{fresh_unset}
-use Rattle.filling.proofs.Attempts.{item_ends, item_fewer, item_fresh, item_set, all_set, attempt_begins, attempt_fails, attempt_fills}
+use Rattle.filling.specs.Filled.{ending}
+use Rattle.filling.proofs.Attempts.{item_fewer, item_set, all_set, attempt_left, attempt_fills, all_fail}
 use Rattle.filling.proofs.fill.fill_places.Goals as goal
+use Rattle.filling.proofs.fill.fill_places.Goals.{else-attempts-test, then-attempts-test+else-is_empty+in-Err+else-nth-attempts}
 
 pub items-init : goal.items-init
 items-init g c =
-    let p = placement_of c.attempts.places in
-    ((refl, refl), subst (Fresh p) (sym c.unset_items-left.ensures) (fresh_unset (world_of c.args.world.now) p (proper_world c.args.world.now).few_items), refl)
+    let w = world_of c.args.world.now in
+    let b = c.begin-attempt.ensures in
+    let ending = ending g.I.Inventory.meaning w g.S.DrawSource.draws (g.S.DrawSource.state c.attempts.source) in
+    record {
+      table = refl;
+      world = refl;
+      goes_on = rw (b.left, b.table, c.attempts.invariant.table) refl;
+    }
 
-pub returns-then-count-eq0 : goal.returns-then-count-eq0
-returns-then-count-eq0 g c =
+pub returns-then-is_empty : goal.returns-then-is_empty
+returns-then-is_empty g c =
     let m = g.I.Inventory.meaning in
     let w = world_of c.args.world.now in
     let s = g.S.DrawSource.draws in
     let state = g.S.DrawSource.state in
-    let before = c.attempts.invariant in
-    let inv = c.items.invariant in
-    let left = left_in c.items.left in
-    let none : length left ≡ 0 = omega arith in
-    let begins = attempt_begins m w s (state c.attempts.source) (placement_of c.args.places.now) (placement_of c.attempts.places) (left_in c.unset_items-left.result) (ap placement_of before.1) c.unset_items-left.ensures in
-    record {
-      filled = sym before.2
-          ∙ attempt_fills m w s (placement_of c.args.places.now) c.args.attempts c.attempts.failed (state c.attempts.source) c.attempts.last.item c.attempts-test.true (placement_of c.items.places) (state c.items.source)
-          (begins ∙ sym inv.2 ∙ all_set m w s (state c.items.source) (placement_of c.items.places) left none);
-      loan = on_loan c.args.marks.now c.attempts.marks c.items.marks before.0 inv.0;
-    }
+    let a = c.items.attempt in
+    let none = eqb-true (length a.left.items) 0 (sym c.is_empty.ensures ∙ c.if-is_empty.true) in
+    sym c.attempts.invariant.goes_on
+    ∙ attempt_fills m w s c.args.table.now c.args.attempts c.attempts.nth (state c.attempts.source) _ c.attempts-test.true a.table (state c.items.source)
+    (sym c.items.invariant.goes_on ∙ all_set m w s (state c.items.source) a.table a.left.items none)
 
 pub items-smaller : goal.items-smaller
 items-smaller g c =
+    let m = g.I.Inventory.meaning in
+    let s = g.S.DrawSource.draws in
     let state = g.S.DrawSource.state in
-    let some : 0 < length (left_in c.items.left) = omega arith in
-    omega (
-      arith,
-      item_fewer g.I.Inventory.meaning (world_of c.args.world.now) g.S.DrawSource.draws (state c.items.source) (placement_of c.items.places) (left_in c.items.left) some
-          (state c.set_one.new.source) (placement_of c.set_one.new.places) (left_in c.set_one.new.left) g.S.DrawSource.fair c.in_default.ensures.step,
-    )
+    let a = c.items.attempt in
+    let b = c.set_one.new.self in
+    let none = false-eqb _ _ (sym c.if-is_empty.false ∙ c.is_empty.ensures) in
+    let some : 0 < length a.left.items = omega (arith, none) in
+    let fewer = item_fewer m (world_of a.world.now) s (state c.items.source) a.table a.left.items some (state c.set_one.new.source) b.table b.left.items g.S.DrawSource.fair c.in_default.ensures.step in
+    omega arith
 
 pub items-preserved : goal.items-preserved
 items-preserved g c =
     let m = g.I.Inventory.meaning in
     let w = world_of c.args.world.now in
     let s = g.S.DrawSource.draws in
-    let fair = g.S.DrawSource.fair in
-    let x = g.S.DrawSource.state c.items.source in
-    let p = placement_of c.items.places in
-    let left = left_in c.items.left in
-    let x' = g.S.DrawSource.state c.set_one.new.source in
-    let p' = placement_of c.set_one.new.places in
-    let left' = left_in c.set_one.new.left in
+    let state = g.S.DrawSource.state in
+    let a = c.items.attempt in
+    let b = c.set_one.new.self in
     let inv = c.items.invariant in
-    let some : 0 < length left = omega arith in
-    let step = c.in_default.ensures.step in (
-      on_loan c.attempts.marks c.items.marks c.set_one.new.marks inv.0 c.set_one.ensures.loan,
-      item_fresh m w s x p left some x' p' left' fair step inv.1,
-      item_set m w s x p left some x' p' left' fair step ∙ inv.2,
-    )
+    let none = false-eqb _ _ (sym c.if-is_empty.false ∙ c.is_empty.ensures) in
+    let some : 0 < length a.left.items = omega (arith, none) in
+    let step = rw (inv.world ∙ c.begin-attempt.ensures.world) at c.in_default.ensures.step in
+    record {
+      table = inv.table;
+      world = c.set_one.ensures.world ∙ inv.world;
+      goes_on = item_set m w s (state c.items.source) a.table a.left.items some (state c.set_one.new.source) b.table b.left.items g.S.DrawSource.fair step ∙ inv.goes_on;
+    }
 
 pub attempts-preserved : goal.attempts-preserved
 attempts-preserved g c =
     let m = g.I.Inventory.meaning in
     let w = world_of c.args.world.now in
     let s = g.S.DrawSource.draws in
-    let start = placement_of c.args.places.now in
-    let x₀ = g.S.DrawSource.state c.attempts.source in
-    let x = g.S.DrawSource.state c.items.source in
-    let p = placement_of c.items.places in
-    let left = left_in c.items.left in
-    let x' = g.S.DrawSource.state c.set_one.new.source in
-    let p' = placement_of c.set_one.new.places in
-    let left' = left_in c.set_one.new.left in
-    let item = c.in-Err.none.item in
+    let state = g.S.DrawSource.state in
+    let a = c.items.attempt in
+    let b = c.set_one.new.self in
     let before = c.attempts.invariant in
     let inv = c.items.invariant in
-    let some : 0 < length left = omega arith in
-    let begins = attempt_begins m w s x₀ start (placement_of c.attempts.places) (left_in c.unset_items-left.result) (ap placement_of before.1) c.unset_items-left.ensures in
-    let ends = item_ends m w s x p left some x' p' left' item c.in-Err.ensures.step in (
-      on_loan c.args.marks.now c.attempts.marks c.set_one.new.marks before.0 (on_loan c.attempts.marks c.items.marks c.set_one.new.marks inv.0 c.set_one.ensures.loan),
-      refl,
-      attempt_fails m w s start c.args.attempts c.attempts.failed x₀ c.attempts.last.item c.attempts-test.true item x' (begins ∙ sym inv.2 ∙ ends) ∙ before.2,
-    )
+    let none = false-eqb _ _ (sym c.if-is_empty.false ∙ c.is_empty.ensures) in
+    let some : 0 < length a.left.items = omega (arith, none) in
+    let step = rw (inv.world ∙ c.begin-attempt.ensures.world) at c.in-Err.ensures.step in
+    record {
+      table = inv.table ∙ before.table;
+      goes_on = attempt_left m w s c.args.table.now c.args.attempts c.attempts.nth (state c.attempts.source) _ c.attempts-test.true a.table (state c.items.source) a.left.items inv.goes_on some (state c.set_one.new.source) b.table b.left.items c.in-Err.none.item step ∙ before.goes_on;
+    }
+
+pub returns : goal.returns
+returns g c =
+    let m = g.I.Inventory.meaning in
+    let w = world_of c.args.world.now in
+    let s = g.S.DrawSource.draws in
+    let state = g.S.DrawSource.state in
+    let start = c.args.table.now in
+    let before = c.attempts.invariant in
+    elim c.attempts-test.branch [
+      | else-attempts-test x ↦ rw (c.unwrap_or.ensures, x.last-is, x.table-is, x.source-is, before.table)
+          (sym before.goes_on ∙ all_fail m w s start _ c.attempts.nth (state c.attempts.source) _ (omega arith))
+      | then-attempts-test+else-is_empty+in-Err+else-nth-attempts x ↦
+          let a = x.items.attempt in
+          let b = x.set_one.new.self in
+          let inv = x.items.invariant in
+          let none = false-eqb _ _ (sym x.if-is_empty.false ∙ x.is_empty.ensures) in
+          let some : 0 < length a.left.items = omega (arith, none) in
+          let step = rw (inv.world ∙ x.begin-attempt.ensures.world) at x.in-Err.ensures.step in
+          let left_at = attempt_left m w s start c.args.attempts c.attempts.nth (state c.attempts.source) _ x.attempts-test.true a.table (state x.items.source) a.left.items inv.goes_on some (state x.set_one.new.source) b.table b.left.items x.in-Err.none.item step in
+          rw (c.unwrap_or.ensures, x.last-is, x.table-is, x.source-is, inv.table, before.table)
+          (sym before.goes_on ∙ sym left_at ∙ all_fail m w s start _ (c.attempts.nth + 1) (state x.set_one.new.source) x.in-Err.none.item (omega arith))
+    ]

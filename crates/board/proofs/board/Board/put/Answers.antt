@@ -1,16 +1,15 @@
-use Rattle.std.proofs.Common.{set, Some, None, refl, ap, ◌∙◌, arith}
-use Rattle.model.specs.Placements.{Placement}
-use Rattle.sheet.specs.Changes.{unless, left_by}
-use Rattle.sheet.specs.Tables.{placement_of}
+use Rattle.std.proofs.Common.{set, is_ok, Some, ap, ◌∙◌, arith}
+use Rattle.sheet.specs.Changes.{unless, told}
 use Rattle.board.specs.Boards.{atlas_of, board_of}
-use Rattle.board.proofs.Setting.{in_hand, few_items, takes}
+use Rattle.explore.proofs.Known.{proper_world}
+use Rattle.board.proofs.Setting.{in_hand, takes}
 use Rattle.board.proofs.board.Board.put.Goals as goal
 
-pub returns : goal.returns
+pub unwrap-requires : goal.unwrap-requires
 unfolding board_of atlas_of
-returns g c =
+unwrap-requires g c =
     let b = c.args.self.now in
-    let p = placement_of b.layout.table in
+    let p = b.layout.table in
     let held = in_hand c.args.item b.layout.hand c.requires.hand in
-    let none = takes p c.args.place c.args.item (omega (arith, b.fits, c.requires.place)) c.requires.empty (omega (arith, b.hand_known c.args.item held, few_items b.world.now)) (b.hand_unset c.args.item held) in
-    (ap (λ (q : Placement). record { placement = q; hand = None }) (c.set.ensures.placement ∙ ap (λ why. left_by (unless why (set p c.args.place (Some c.args.item))) p) none), refl)
+    let none = takes p c.args.place c.args.item (omega (arith, b.fits, c.requires.place)) c.requires.empty (omega (arith, b.hand_known c.args.item held, (proper_world b.world.now).few_items)) (b.hand_unset c.args.item held) in
+    ap is_ok (c.set.ensures.answer ∙ ap (λ why. told (unless why (set p c.args.place (Some c.args.item)))) none)

@@ -1,7 +1,0 @@
-use Rattle.std.proofs.Common.{refl}
-use Rattle.board.specs.Boards.{board_of}
-use Rattle.board.proofs.board.Board.sheet.Goals as goal
-
-pub returns : goal.returns
-unfolding board_of
-returns g c = refl
