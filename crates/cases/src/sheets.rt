@@ -13,8 +13,7 @@ const COIN_FIRST: Items = [Some(1), Some(0), Some(2)];
 const COIN_FIRST_FILE: [u8; 8] = [0, 3, 0, 2, 0, 1, 0, 3];
 
 fn items(sheet: &Sheet) -> Items {
-    let table = &sheet.table;
-    [table.item_at(0), table.item_at(1), table.item_at(2)]
+    [0, 1, 2].map(|place| sheet.table.item_at(place))
 }
 
 // What a new sheet holds once the file is loaded.
@@ -32,7 +31,7 @@ fn load_both(world: &World, file: &[u8], other: &[u8]) -> Items {
     items(&sheet)
 }
 
-// Loads a file and writes it again.
+// Loads a file, refused or not, and writes what the sheet holds then.
 fn write(world: &World, file: &[u8], buffer: &mut [u8]) -> Result<usize, ShortBuffer> {
     let mut sheet = Sheet::new();
     let _ = sheet.load(world, file);

@@ -1,17 +1,11 @@
 // Inventories, by example.
-use inventory::{Barren, Counts, Family, Inventory, Keys, Tiers, WorldInventory};
-
-fn with<I: Inventory>(code: u16, times: u16) -> I {
-    let mut held = I::empty();
-    for _ in 0..times {
-        held.add(code);
-    }
-    held
-}
+use crate::held::several;
+use inventory::{Barren, Counts, Family, Inventory, Keys, NoSuchFamily, Tiers, WorldInventory};
+use std::test::Fail;
 
 #[test]
 fn a_key_is_held_once_it_is_there_and_only_in_amount_one(rt: HostRuntime) {
-    let keys = with::<Keys>(31, 2);
+    let keys = several::<Keys>(31, 2);
     assert!(rt; keys.holds(31, 1));
     assert!(rt; !keys.holds(31, 2));
     assert!(rt; !keys.holds(31, 0));
@@ -21,17 +15,17 @@ fn a_key_is_held_once_it_is_there_and_only_in_amount_one(rt: HostRuntime) {
 
 #[test]
 fn an_unknown_code_is_worth_nothing_and_never_met(rt: HostRuntime) {
-    let keys = with::<Keys>(32, 1);
+    let keys = several::<Keys>(32, 1);
     assert!(rt; !keys.holds(32, 1));
     assert_eq!(rt; keys.count(), 0);
-    let counts = with::<Counts>(65535, 3);
+    let counts = several::<Counts>(65535, 3);
     assert!(rt; !counts.holds(65535, 1));
     assert_eq!(rt; counts.total(), 0);
 }
 
 #[test]
 fn five_swords_have_level_four(rt: HostRuntime) {
-    let tiers = with::<Tiers>(0, 5);
+    let tiers = several::<Tiers>(0, 5);
     assert_eq!(rt; tiers.level(0), 4);
     assert!(rt; tiers.holds(0, 4));
     assert!(rt; !tiers.holds(0, 5));
@@ -39,7 +33,7 @@ fn five_swords_have_level_four(rt: HostRuntime) {
 
 #[test]
 fn counts_stop_at_999(rt: HostRuntime) {
-    let counts = with::<Counts>(7, 1200);
+    let counts = several::<Counts>(7, 1200);
     assert_eq!(rt; counts.level(7), 999);
     assert!(rt; counts.holds(7, 999));
     assert!(rt; !counts.holds(7, 1000));
@@ -58,7 +52,23 @@ fn each_family_has_its_own_codes_in_a_world(rt: HostRuntime) {
 }
 
 #[test]
+fn a_family_is_printed_and_read_by_its_name(rt: HostRuntime) -> Result<(), Fail> {
+    let families = [
+        (Family::Key, "key"),
+        (Family::Count, "count"),
+        (Family::Tier, "tier"),
+    ];
+    for (family, name) in families {
+        let printed = format!(in rt.alloc(); "{family}")?;
+        assert_eq!(rt; printed.as_str(), name);
+        assert_eq!(rt; name.parse::<Family>(), Ok(family));
+    }
+    assert_eq!(rt; "coin".parse::<Family>(), Err(NoSuchFamily));
+    Ok(())
+}
+
+#[test]
 fn a_barren_inventory_meets_nothing(rt: HostRuntime) {
-    let nothing = with::<Barren>(0, 9);
+    let nothing = several::<Barren>(0, 9);
     assert!(rt; !nothing.holds(0, 1));
 }

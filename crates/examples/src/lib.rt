@@ -1,13 +1,15 @@
 // The worked examples: shown of the definitions, and run as tests of the code.
 #![tactic(auto)]
 
+mod held;
 mod yard;
 
 ghost use Rattle.std.specs.Prelude.{◌≡◌, Ok};
 ghost use Rattle.examples.specs.Examples.{Examples};
 
 use draw::{BadSource, DrawSource, Seeded};
-use inventory::{Inventory, Tiers};
+use held::several;
+use inventory::Tiers;
 pub use yard::world_a;
 
 // What the examples come to, by the definitions alone.
@@ -19,13 +21,7 @@ pub fn examples_hold()
 pub fn five_swords() -> u16
     ensures { result ≡ 4 }
 {
-    let mut tiers = Tiers::empty();
-    tiers.add(0);
-    tiers.add(0);
-    tiers.add(0);
-    tiers.add(0);
-    tiers.add(0);
-    tiers.level(0)
+    several::<Tiers>(0, 5).level(0)
 }
 
 // What a source seeded with 1 answers to draw 10.

@@ -32,17 +32,8 @@ fn a_tape_past_its_end_answers_zero(rt: HostRuntime) -> Result<(), Fail> {
 }
 
 #[test]
-fn a_seed_of_zero_and_a_tape_of_513_make_no_source(rt: HostRuntime) -> Result<(), Fail> {
-    match Seeded::new(0) {
-        Ok(_) => return Err(Fail::new("seeded with 0")),
-        Err(why) => assert_eq!(rt; why, BadSource::ZeroSeed),
-    }
+fn a_seed_of_zero_and_a_tape_of_513_make_no_source(rt: HostRuntime) {
+    assert_eq!(rt; Seeded::new(0).err(), Some(BadSource::ZeroSeed));
     assert!(rt; Tape::new(&[0; 512]).is_ok());
-    match Tape::new(&[0; 513]) {
-        Ok(_) => Err(Fail::new("513 numbers")),
-        Err(why) => {
-            assert_eq!(rt; why.number(), 38);
-            Ok(())
-        },
-    }
+    assert_eq!(rt; Tape::new(&[0; 513]).err().map(BadSource::number), Some(38));
 }

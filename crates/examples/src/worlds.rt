@@ -1,8 +1,9 @@
 // Worlds, by example.
 use crate::world_a;
-use explore::{FewMarks, ask_gathered, ask_open, ask_sphere, ask_whole};
+use explore::{FewMarks, Player, ask_sphere, ask_whole};
 use inventory::{Family, Inventory, WorldInventory};
 use model::RuleWord;
+use scratch::WORK_MARKS;
 use std::test::Fail;
 use world::{BuildRefusal, Draft, World};
 
@@ -24,11 +25,10 @@ fn open_with(world: &World, codes: &[u16]) -> Result<[bool; 3], FewMarks> {
     for code in codes {
         held.add(*code);
     }
-    let mut marks = [7; 320];
-    let well = ask_open(world, &held, 0, &mut marks)?;
-    let shed = ask_open(world, &held, 1, &mut marks)?;
-    let vault = ask_open(world, &held, 2, &mut marks)?;
-    Ok([well, shed, vault])
+    let player = Player { world, held };
+    let mut marks = [7; WORK_MARKS];
+    let mut is_open = |place| player.ask_open(place, &mut marks);
+    Ok([is_open(0)?, is_open(1)?, is_open(2)?])
 }
 
 #[test]
@@ -43,20 +43,14 @@ fn more_items_open_more_places(rt: HostRuntime) -> Result<(), Fail> {
 #[test]
 fn a_lamp_in_the_well_gathers_only_the_well(rt: HostRuntime) -> Result<(), Fail> {
     let world = world_a(rt.alloc())?;
-    let nothing = WorldInventory::empty();
-    let mut marks = [0; 320];
-    assert_eq!(rt;
-        ask_gathered(&world, &LAMP_FIRST, &nothing, 0, &mut marks),
-        Ok(true)
-    );
-    assert_eq!(rt;
-        ask_gathered(&world, &LAMP_FIRST, &nothing, 1, &mut marks),
-        Ok(false)
-    );
-    assert_eq!(rt;
-        ask_gathered(&world, &LAMP_FIRST, &nothing, 2, &mut marks),
-        Ok(false)
-    );
+    let player = Player {
+        world: &world,
+        held: WorldInventory::empty(),
+    };
+    let mut marks = [0; WORK_MARKS];
+    assert_eq!(rt; player.ask_gathered(&LAMP_FIRST, 0, &mut marks), Ok(true));
+    assert_eq!(rt; player.ask_gathered(&LAMP_FIRST, 1, &mut marks), Ok(false));
+    assert_eq!(rt; player.ask_gathered(&LAMP_FIRST, 2, &mut marks), Ok(false));
     assert_eq!(rt;
         ask_whole::<WorldInventory>(&world, &LAMP_FIRST, &mut marks),
         Ok(false)
@@ -67,7 +61,7 @@ fn a_lamp_in_the_well_gathers_only_the_well(rt: HostRuntime) -> Result<(), Fail>
 #[test]
 fn a_coin_in_the_well_has_spheres_one_two_and_three(rt: HostRuntime) -> Result<(), Fail> {
     let world = world_a(rt.alloc())?;
-    let mut marks = [255; 320];
+    let mut marks = [255; WORK_MARKS];
     assert_eq!(rt;
         ask_sphere::<WorldInventory>(&world, &COIN_FIRST, 0, &mut marks),
         Ok(Some(1))

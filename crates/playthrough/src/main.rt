@@ -4,15 +4,19 @@
 mod fault;
 mod item;
 mod names;
+mod number;
 mod request;
+mod row;
 mod tables;
 mod tour;
 
-use draw::{DrawSource, Tape, deal};
+ghost use Rattle.std.specs.Prelude.{◌≡◌, ◌≤◌, [], OnOk, vec_len};
+
+use draw::{DrawSource, Drawn, Tape, deal};
 use examples::world_a;
 use inventory::{Family, Inventory, WorldInventory};
 use item::Item;
-use request::{Chosen, Request};
+use request::{Chosen, Numbers, Request};
 use std::io;
 use std::io::Read;
 use tables::print_tables;
@@ -20,36 +24,27 @@ use tour::print_tour;
 
 fn print_standing(rt: &HostRuntime, held: &WorldInventory, item: Item) -> io::Result<()> {
     let number = u16::from(item.number);
-    let level = match item.family {
-        Family::Key => {
-            let word = if held.left().contains(number) {
-                "held"
-            } else {
-                "not held"
-            };
-            return println!(rt; "{word}");
-        }
-        Family::Count => held.right().left().level(number),
-        Family::Tier => held.right().right().level(number),
-    };
-    println!(rt; "level {level}")
+    match item.family {
+        Family::Key if held.left().contains(number) => println!(rt; "held"),
+        Family::Key => println!(rt; "not held"),
+        Family::Count => println!(rt; "level {}", held.right().left().level(number)),
+        Family::Tier => println!(rt; "level {}", held.right().right().level(number)),
+    }
 }
 
+// Deals every item.
 fn deal_all<S: DrawSource>(
     rt: &HostRuntime,
     source: &mut S,
     items: &mut Vec<Item>,
-) -> io::Result<()> {
+) -> io::Result<()>
+    ensures { vec_len items.old ≤ 256 → OnOk result (items.new.items ≡ []) }
+{
     let mut held = WorldInventory::empty();
-    for _ in 0..items.len() {
-        let left = items.len();
-        if let Some(drawn) = deal(source, items) {
-            let index = drawn.index;
-            let item = drawn.item;
-            held.add(item.family.code(item.number));
-            print!(rt; "drew {index} of {left}: {item}, ")?;
-            print_standing(rt, &held, item)?;
-        }
+    while let Some(Drawn { index, item }) = deal(source, items) {
+        held.add(item.family.code(item.number));
+        print!(rt; "drew {index} of {}: {item}, ", items.len() + 1)?;
+        print_standing(rt, &held, item)?;
     }
     let keys = held.left().count();
     let counts = held.right().left().total();
@@ -61,9 +56,9 @@ fn serve(rt: &HostRuntime, request: Request) -> io::Result<()> {
     let Request { source, mut items } = request;
     match source {
         Chosen::Seed(mut seeded) => deal_all(rt, &mut seeded, &mut items),
-        Chosen::Numbers(numbers) => match Tape::new(numbers.as_slice()) {
-            Ok(mut tape) => deal_all(rt, &mut tape, &mut items),
-            Err(why) => println!(rt; "{why}"),
+        Chosen::Tape(Numbers { numbers }) => {
+            let mut tape = Tape::new(numbers.as_slice()).unwrap();
+            deal_all(rt, &mut tape, &mut items)
         },
     }
 }

@@ -1,134 +1,81 @@
 // What the program is asked to deal: a source, and the items in the order of the input.
-ghost use Rattle.std.specs.Prelude.{◌<◌, ◌≤◌, IfOk, vec_len};
+ghost use Rattle.std.specs.Prelude.{◌≤◌, vec_len};
 
 use crate::fault::{Fault, What};
 use crate::item::Item;
-use draw::{BadSource, Seeded};
-use inventory::Family;
+use crate::number::number;
+use draw::{Seeded, Tape};
 use std::alloc::Global;
+
+// Numbers that a tape can be made of.
+#[derive(Drop)]
+pub struct Numbers {
+    pub numbers: Vec<u16>,
+    ghost few: { vec_len numbers ≤ 512 },
+}
 
 #[derive(Drop)]
 pub enum Chosen {
     Seed(Seeded),
-    Numbers(Vec<u16>),
+    Tape(Numbers),
 }
 
 #[derive(Drop)]
 pub struct Request {
     pub source: Chosen,
     pub items: Vec<Item>,
+    ghost few: { vec_len items ≤ 256 },
 }
 
-// A number in digits alone.
-fn number(word: &str) -> Result<u64, What> {
-    if word.starts_with('+') {
-        return Err(What::NotANumber);
-    }
-    match word.parse::<u64>() {
-        Ok(number) => Ok(number),
-        Err(_) => Err(What::NotANumber),
-    }
-}
-
-fn numbers(heap: Global, words: &str) -> Result<Vec<u16>, What> {
-    let mut numbers = Vec::new(heap);
-    for word in words.split(' ') {
-        match u16::try_from(number(word)?) {
-            Ok(number) => numbers.push(number)?,
-            Err(_) => return Err(What::NotANumber),
-        }
-        if numbers.len() > 512 {
-            return Err(What::NoSuchSource(BadSource::LongTape));
-        }
-    }
-    Ok(numbers)
-}
-
-fn seed(word: &str) -> Result<Seeded, What> {
-    match Seeded::new(number(word)?) {
-        Ok(seeded) => Ok(seeded),
-        Err(why) => Err(What::NoSuchSource(why)),
+impl Numbers {
+    // Behind the first number that is too many none is looked at.
+    fn read(heap: Global, words: &str) -> Result<Numbers, What> {
+        let numbers: Vec<u16> = words.split(' ').take(513).map(number).try_collect(heap)?;
+        Tape::new(numbers.as_slice())?;
+        Ok(Numbers { numbers })
     }
 }
 
 fn source(heap: Global, line: &str) -> Result<Chosen, What> {
-    let Some((name, words)) = line.split_once(' ') else {
-        return Err(What::NoSource);
-    };
-    match name {
-        "seed" => Ok(Chosen::Seed(seed(words)?)),
-        "tape" => Ok(Chosen::Numbers(numbers(heap, words)?)),
+    match line.split_once(' ') {
+        Some(("seed", word)) => Ok(Chosen::Seed(Seeded::new(number(word)?)?)),
+        Some(("tape", words)) => Ok(Chosen::Tape(Numbers::read(heap, words)?)),
         _ => Err(What::NoSource),
     }
 }
 
-fn item(line: &str) -> Result<Item, What>
-    ensures { IfOk result (λ i. i.number < 32) }
-{
-    let Some((name, word)) = line.split_once(' ') else {
-        return Err(What::NotAnItem);
-    };
-    let family = match name {
-        "key" => Family::Key,
-        "count" => Family::Count,
-        "tier" => Family::Tier,
-        _ => return Err(What::NoSuchFamily),
-    };
-    let number = number(word)?;
-    if number >= 32 {
-        return Err(What::NoSuchKind);
-    }
-    Ok(Item {
-        family,
-        number: number as u8,
-    })
-}
-
-fn put_line(items: &mut Vec<Item>, line: &str) -> Result<(), What>
-    ensures { vec_len items.old ≤ 256 → vec_len items.new ≤ 256 }
-{
-    let item = item(line)?;
-    if items.len() >= 256 {
-        return Err(What::TooManyItems);
-    }
-    items.push(item)?;
-    Ok(())
-}
-
-fn read_text(heap: Global, text: &str) -> Result<Request, Fault>
-    ensures { IfOk result (λ q. vec_len q.items ≤ 256) }
-{
-    let mut lines = text.lines();
-    let Some(first) = lines.next() else {
-        return Err(Fault {
-            line: 1,
-            what: What::NoSource,
-        });
-    };
-    let source = match source(heap, first) {
-        Ok(source) => source,
-        Err(what) => return Err(Fault { line: 1, what }),
-    };
-    let mut items = Vec::new(heap);
-    let mut number = 1usize;
-    for line in lines {
-        number = number.saturating_add(1);
-        if let Err(what) = put_line(&mut items, line) {
-            return Err(Fault { line: number, what });
+impl Request {
+    // Nothing to deal yet.
+    fn new(heap: Global, source: Chosen) -> Request {
+        Request {
+            source,
+            items: Vec::new(heap),
         }
     }
-    Ok(Request { source, items })
+
+    fn put_line(&mut self, line: &str) -> Result<(), What> {
+        let item = line.parse()?;
+        if self.items.len() >= 256 {
+            return Err(What::TooManyItems);
+        }
+        self.items.push(item)?;
+        Ok(())
+    }
+}
+
+fn read_text(heap: Global, text: &str) -> Result<Request, Fault> {
+    let mut lines = text.lines();
+    let first = lines.next().ok_or(What::NoSource.at_line(1))?;
+    let source = source(heap, first).map_err(|what| what.at_line(1))?;
+    let mut request = Request::new(heap, source);
+    for (number, line) in (2..).zip(lines) {
+        request.put_line(line).map_err(|what| what.at_line(number))?;
+    }
+    Ok(request)
 }
 
 // Reads an input whole, or says what is wrong with it first; at most 256 items are taken in.
-pub fn read(heap: Global, bytes: &[u8]) -> Result<Request, Fault>
-    ensures { IfOk result (λ q. vec_len q.items ≤ 256) }
-{
-    match std::str::from_utf8(bytes) {
-        Ok(text) => read_text(heap, text),
-        Err(_) => Err(Fault {
-            line: 0,
-            what: What::NotText,
-        }),
-    }
+pub fn read(heap: Global, bytes: &[u8]) -> Result<Request, Fault> {
+    let text = std::str::from_utf8(bytes).map_err(|_| What::NotText.at_line(0))?;
+    read_text(heap, text)
 }

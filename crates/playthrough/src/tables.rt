@@ -1,39 +1,39 @@
 // Prints a world's tables.
 use crate::names::{kind_name, place_name, region_name};
+use crate::row::print_row;
 use model::RuleWord;
-use std::io;
+use std::{fmt, io};
 use world::World;
 
-fn print_word(rt: &HostRuntime, word: RuleWord) -> io::Result<()> {
-    match word {
-        RuleWord::Free => print!(rt; " free"),
-        RuleWord::Need { code, amount } => {
-            let name = kind_name(code);
-            if amount == 1 {
-                print!(rt; " {name}")
-            } else {
-                print!(rt; " {name}:{amount}")
-            }
+// A word of a rule, as it is printed.
+#[derive(Clone, Copy)]
+struct Word(RuleWord);
+
+impl fmt::Display for Word {
+    fn fmt<W: fmt::Write>(&self, f: &mut fmt::Formatter<W>) -> fmt::Result {
+        match self.0 {
+            RuleWord::Free => write!(f, "free"),
+            RuleWord::Need { code, amount: 1 } => write!(f, "{}", kind_name(code)),
+            RuleWord::Need { code, amount } => write!(f, "{}:{amount}", kind_name(code)),
+            RuleWord::And => write!(f, "and"),
+            RuleWord::Or => write!(f, "or"),
         }
-        RuleWord::And => print!(rt; " and"),
-        RuleWord::Or => print!(rt; " or"),
     }
 }
 
-// Ends the line with the words of a rule.
-fn print_rule(rt: &HostRuntime, rule: &[RuleWord]) -> io::Result<()> {
-    for word in rule {
-        print_word(rt, *word)?;
-    }
-    println!(rt; "")
+fn print_rule<L: fmt::Display + Drop>(
+    rt: &HostRuntime,
+    label: L,
+    rule: &[RuleWord],
+) -> io::Result<()> {
+    print_row(rt, label, rule.iter().map(|word| Word(*word)))
 }
 
 fn print_gates(rt: &HostRuntime, world: &World) -> io::Result<()> {
     for gate in world.gates() {
         let near = region_name(gate.near);
         let far = region_name(gate.far);
-        print!(rt; "gate {near} {far}:")?;
-        print_rule(rt, world.rule(gate.rule))?;
+        print_rule(rt, format_args!("gate {near} {far}"), world.rule(gate.rule))?;
     }
     Ok(())
 }
@@ -42,19 +42,17 @@ fn print_places(rt: &HostRuntime, world: &World) -> io::Result<()> {
     for (number, place) in world.places().iter().enumerate() {
         let name = place_name(number);
         let region = region_name(place.region);
-        print!(rt; "place {name} in {region}:")?;
-        print_rule(rt, world.rule(place.rule))?;
+        print_rule(
+            rt,
+            format_args!("place {name} in {region}"),
+            world.rule(place.rule),
+        )?;
     }
     Ok(())
 }
 
 fn print_items(rt: &HostRuntime, label: &str, codes: &[u16]) -> io::Result<()> {
-    print!(rt; "{label}:")?;
-    for code in codes {
-        let name = kind_name(*code);
-        print!(rt; " {name}")?;
-    }
-    println!(rt; "")
+    print_row(rt, label, codes.iter().map(|code| kind_name(*code)))
 }
 
 pub fn print_tables(rt: &HostRuntime, world: &World) -> io::Result<()> {
@@ -66,6 +64,5 @@ pub fn print_tables(rt: &HostRuntime, world: &World) -> io::Result<()> {
     print_places(rt, world)?;
     print_items(rt, "pool", world.pool())?;
     print_items(rt, "stock", world.stock())?;
-    print!(rt; "goal:")?;
-    print_rule(rt, world.rule(world.goal()))
+    print_rule(rt, "goal", world.rule(world.goal()))
 }
