@@ -1,9 +1,9 @@
 #!/usr/bin/env python3
 """Counts the places of src/ that an older Rattle's design left, point by point.
 
-usage: python3 tools/design_counts.py [COMMIT] [--list] [--point N]
+usage: python3 tools/design_counts.py [COMMIT] [--list] [--only NAME]
 
-Without COMMIT the working tree is read. --list prints each place. Tests are left out.
+Without COMMIT the working tree is read. --list prints each place, --only NAME the places of one name. Tests are left out.
 """
 
 import collections
@@ -122,8 +122,8 @@ def lines(files, pattern):
 def main():
     words = [w for w in sys.argv[1:] if not w.startswith("--")]
     only = None
-    if "--point" in sys.argv:
-        only = sys.argv[sys.argv.index("--point") + 1]
+    if "--only" in sys.argv:
+        only = sys.argv[sys.argv.index("--only") + 1]
         words.remove(only)
     files = [(p, t) for p, t in sources(words[0] if words else None)]
     code = [f for p, t in files for f in functions(p, t)]
@@ -132,32 +132,32 @@ def main():
         places = list(places)
         if only and not point.startswith(only):
             return
-        print(f"{point:4} {len(places):4}  {what}")
+        print(f"{point:16} {len(places):4}  {what}")
         if "--list" in sys.argv:
             for place in places:
                 print("            " + place)
 
-    told("1a", "functions that answer a refusal as an Option", (f.at() for f in code if re.search(r"Option<\w*Refusal>", f.result)))
-    told("1b", "refusals passed on by hand: `if let Some(why) .. return`, a match that wraps Ok or Err again", [p for p in lines(files, r"if let (Some|Err)\((why|what|none)\)|Ok\((\w+)\) => Ok\(\3\)|Err\((why)\) => Err\(|Err\((_|\w+)\) => (return )?Err\(")])
-    told("1c", "a bool that says whether a step was done", (f.at() for f in code if f.result == "bool" and ("&mut" in " ".join(f.params)) and re.search(r"return false;|=> false|\bfalse\n|match", f.body) and not re.search(r"grew", f.body)))
-    told("1d", "a number that stands for none", lines(files, r"None => 0,|!= 0\s*\{|\.len [!=]= 0|item: 0 \}|get_or\(.*, 0\)|latest\.push\(0\)|^    0$"))
-    told("1e", "a flag with a value beside it", lines(files, r"^\s+(pub )?\w+: bool,$"))
+    told("option-refusals", "functions that answer a refusal as an Option", (f.at() for f in code if re.search(r"Option<\w*Refusal>", f.result)))
+    told("passed-on", "refusals passed on by hand: `if let Some(why) .. return`, a match that wraps Ok or Err again", [p for p in lines(files, r"if let (Some|Err)\((why|what|none)\)|Ok\((\w+)\) => Ok\(\3\)|Err\((why)\) => Err\(|Err\((_|\w+)\) => (return )?Err\(")])
+    told("bools", "a bool that says whether a step was done", (f.at() for f in code if f.result == "bool" and ("&mut" in " ".join(f.params)) and re.search(r"return false;|=> false|\bfalse\n|match", f.body) and not re.search(r"grew", f.body)))
+    told("zeros", "a number that stands for none", lines(files, r"None => 0,|!= 0\s*\{|\.len [!=]= 0|item: 0 \}|get_or\(.*, 0\)|latest\.push\(0\)|^    0$"))
+    told("flags", "a flag with a value beside it", lines(files, r"^\s+(pub )?\w+: bool,$"))
     shapes = collections.defaultdict(list)
     for f in code:
         if len(re.findall(r"\w+", f.body)) >= 3 and not f.path.endswith("laws.rt") and "fmt::Formatter" not in " ".join(f.params):
             shapes[shape(f)].append(f)
-    told("2", "functions whose bodies differ only in names and numbers", (", ".join(g.at() for g in group) for group in shapes.values() if len(group) > 1))
-    told("3a", "loops over a counted range", lines(files, r"^\s*('\w+: )?for \w+ in .*\.\.(?!\.)"))
-    told("3b", "loops that count or step an index by hand", lines(files, r"^\s*while (?!let)"))
-    told("3c", "loops that only look, count, sum or fill", (f.at() for f in code if re.search(r"\bfor\b[^{]*\{\s*(if [^{]*\{\s*(return (true|false|Some\(\w+\)|\w+);|\w+ \+= 1;)\s*\}|\w+\[\w+\] = 0;|total \+=[^;]*;|let Some[^;]*;[^;]*;[^;]*;\s*)\s*\}", f.body)))
-    told("4a", "texts printed by hand", lines(files, r"impl fmt::Display for"))
-    told("4b", "an option or a result taken apart by hand to copy, default, map or compare what is in it", lines(files, r"Some\((\w+)\) => (\*|\w+ == |\1 \+)|None => (None|0|false),$|Ok\(\) => true|Ok\(_\) => true"))
-    told("4c", "conversions and comparisons by functions of our own", (f.at() for f in code if f.name in ("from_table", "number", "item_of", "entry", "put_number", "same", "is_item", "lies_at", "holds", "is_letter", "is_digit", "none", "zeros", "code_of", "item_at") and f.name + f.path not in ("holds" + f.path if "inventory" in f.path else "",)))
+    told("twins", "functions whose bodies differ only in names and numbers", (", ".join(g.at() for g in group) for group in shapes.values() if len(group) > 1))
+    told("ranges", "loops over a counted range", lines(files, r"^\s*('\w+: )?for \w+ in .*\.\.(?!\.)"))
+    told("stepped", "loops that count or step an index by hand", lines(files, r"^\s*while (?!let)"))
+    told("looks", "loops that only look, count, sum or fill", (f.at() for f in code if re.search(r"\bfor\b[^{]*\{\s*(if [^{]*\{\s*(return (true|false|Some\(\w+\)|\w+);|\w+ \+= 1;)\s*\}|\w+\[\w+\] = 0;|total \+=[^;]*;|let Some[^;]*;[^;]*;[^;]*;\s*)\s*\}", f.body)))
+    told("texts", "texts printed by hand", lines(files, r"impl fmt::Display for"))
+    told("taken-apart", "an option or a result taken apart by hand to copy, default, map or compare what is in it", lines(files, r"Some\((\w+)\) => (\*|\w+ == |\1 \+)|None => (None|0|false),$|Ok\(\) => true|Ok\(_\) => true"))
+    told("own-conversions", "conversions and comparisons by functions of our own", (f.at() for f in code if f.name in ("from_table", "number", "item_of", "entry", "put_number", "same", "is_item", "lies_at", "holds", "is_letter", "is_digit", "none", "zeros", "code_of", "item_at") and f.name + f.path not in ("holds" + f.path if "inventory" in f.path else "",)))
     clauses = collections.defaultdict(set)
     for f in code:
         for kind, name, text in f.clauses:
             clauses[text].add(f.at())
-    told("5a", "clauses that stand in three functions or more", (f"{len(fs)} times: {text}" for text, fs in sorted(clauses.items(), key=lambda x: -len(x[1])) if len(fs) > 2))
+    told("clauses", "clauses that stand in three functions or more", (f"{len(fs)} times: {text}" for text, fs in sorted(clauses.items(), key=lambda x: -len(x[1])) if len(fs) > 2))
     pairs = collections.defaultdict(list)
     for f in code:
         named = sorted({re.sub(r"^mut ", "", p) for p in f.params if ":" in p and "&HostRuntime" not in p})
@@ -165,14 +165,14 @@ def main():
             for b in named[i + 1:]:
                 plain = tuple(re.sub(r"&mut |&", "", x) for x in (a, b))
                 pairs[plain].append(f.at())
-    told("5b", "pairs of parameters that stand in three functions or more", (f"{len(fs)} times: {a}, {b}" for (a, b), fs in sorted(pairs.items(), key=lambda x: -len(x[1])) if len(fs) > 2))
-    told("6a", "structs with a buffer and a length beside it", (f"{p}: {m.group(1)}" for p, t in files for m in re.finditer(r"struct (\w+)[^{;]*\{([^}]*)\}", t) if re.search(r":\s*(&'a mut )?\[", m.group(2)) and re.search(r"\b(len|count): usize", m.group(2))))
-    told("6b", "rows that are known by an index or a range of numbers", (f"{p}: {m.group(1)}" for p, t in files for m in re.finditer(r"struct (\w+)[^{;]*\{([^}]*)\}", t) if re.search(r"start: u16|earlier:|latest:", m.group(2))))
-    told("7", "the same steps around one that differs: a guard made of lent bytes after the test of their number", lines(files, r"Marks \{ bytes: lent \}"))
+    told("parameters", "pairs of parameters that stand in three functions or more", (f"{len(fs)} times: {a}, {b}" for (a, b), fs in sorted(pairs.items(), key=lambda x: -len(x[1])) if len(fs) > 2))
+    told("lengths", "structs with a buffer and a length beside it", (f"{p}: {m.group(1)}" for p, t in files for m in re.finditer(r"struct (\w+)[^{;]*\{([^}]*)\}", t) if re.search(r":\s*(&'a mut )?\[", m.group(2)) and re.search(r"\b(len|count): usize", m.group(2))))
+    told("indices", "rows that are known by an index or a range of numbers", (f"{p}: {m.group(1)}" for p, t in files for m in re.finditer(r"struct (\w+)[^{;]*\{([^}]*)\}", t) if re.search(r"start: u16|earlier:|latest:", m.group(2))))
+    told("steps", "the same steps around one that differs: a guard made of lent bytes after the test of their number", lines(files, r"Marks \{ bytes: lent \}"))
     told("", "functions in all", (f.at() for f in code))
     proofs = [(p, t) for p, t in sources(words[0] if words else None, "/proofs/", ".antt")]
-    told("8a", "goals answered by hand", (f"{p}: {n}" for p, t in proofs if p.endswith("/Answers.antt") for n in re.findall(r"^pub (\S+) :", t, re.M)))
-    told("8b", "lines in proofs/", (f"{p}" for p, t in proofs for _ in t.rstrip().split("\n")))
+    told("answers", "goals answered by hand", (f"{p}: {n}" for p, t in proofs if p.endswith("/Answers.antt") for n in re.findall(r"^pub (\S+) :", t, re.M)))
+    told("lines", "lines in proofs/", (f"{p}" for p, t in proofs for _ in t.rstrip().split("\n")))
     told("", "closures", lines(files, r"[(,=]\s*(move )?\|[\w&(), ]*\|"))
 
 

@@ -1,4 +1,6 @@
 // What is wrong with an input, and at which line.
+ghost use Rattle.std.specs.Prelude.{◌≡◌};
+
 use draw::BadSource;
 use inventory::NoSuchFamily;
 use std::alloc::AllocError;
@@ -28,7 +30,10 @@ pub enum What {
 
 impl What {
     // What is wrong, said of a line.
-    pub fn at_line(self, line: usize) -> Fault {
+    pub fn at_line(self, line: usize) -> Fault
+        ensures line { result.line ≡ line }
+        ensures what { result.what ≡ self }
+    {
         Fault { line, what: self }
     }
 }

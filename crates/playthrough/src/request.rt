@@ -1,5 +1,5 @@
 // What the program is asked to deal: a source, and the items in the order of the input.
-ghost use Rattle.std.specs.Prelude.{◌≤◌, vec_len};
+ghost use Rattle.std.specs.Prelude.{◌≤◌, IfOk, vec_len};
 
 use crate::fault::{Fault, What};
 use crate::item::Item;
@@ -75,7 +75,9 @@ fn read_text(heap: Global, text: &str) -> Result<Request, Fault> {
 }
 
 // Reads an input whole, or says what is wrong with it first; at most 256 items are taken in.
-pub fn read(heap: Global, bytes: &[u8]) -> Result<Request, Fault> {
+pub fn read(heap: Global, bytes: &[u8]) -> Result<Request, Fault>
+    ensures { IfOk result (λ q. vec_len q.items ≤ 256) }
+{
     let text = std::str::from_utf8(bytes).map_err(|_| What::NotText.at_line(0))?;
     read_text(heap, text)
 }
