@@ -1,5 +1,5 @@
 -- What lies in a set of places, from one place of a placement to the next.
-use Rattle.std.proofs.Common.{◌≡◌, ℕ, zero, suc, ◌+◌, ◌≤◌, Bool, true, false, cond, ◌&&◌, ◌||◌, eqb, List, [], ◌∷◌, length, drop, Some, None, Option, sym, refl, ap, ◌∙◌, inl, inr, add-one, arith}
+use Rattle.std.proofs.Common.{◌≡◌, ℕ, zero, suc, ◌+◌, ◌≤◌, Bool, true, false, cond, ◌&&◌, ◌||◌, eqb, List, [], ◌∷◌, length, take, drop, Some, None, Option, sym, refl, ap, ◌∙◌, inl, inr, add-one, arith}
 use Rattle.std.specs.List.{list_any, enumerate_from}
 use Rattle.std.proofs.Math.Seq.{drop-cons}
 use Rattle.std.proofs.lemmas.List.{drop_all, get_or_past}
@@ -17,6 +17,15 @@ lying_nowhere (o ∷ p) = refl
 
 pub lying_end : (p : Placement) (s : List Bool) (k : ℕ) → length p ≤ k → lying (drop k p) (drop k s) ≡ []
 lying_end p s k h = ap (λ l. lying l (drop k s)) (drop_all k p h)
+
+-- what lies behind a set's end counts for nothing
+pub lying_own : (p : Placement) (s : List Bool) (n : ℕ) → length s ≤ n → lying (take n p) s ≡ lying p s
+lying_own p [] n h = lying_nowhere (take n p) ∙ sym (lying_nowhere p)
+lying_own p (b ∷ s) zero h = absurd (omega arith)
+lying_own [] (b ∷ s) (suc n) h = refl
+lying_own (None ∷ p) (b ∷ s) (suc n) h = lying_own p s n (omega arith)
+lying_own (Some i ∷ p) (true ∷ s) (suc n) h = ap (λ (l : List ℕ). i ∷ l) (lying_own p s n (omega arith))
+lying_own (Some i ∷ p) (false ∷ s) (suc n) h = lying_own p s n (omega arith)
 
 same_either_way : {X : Type 0} (b : Bool) (x : X) → cond b x x ≡ x
 same_either_way true x = refl

@@ -7,6 +7,7 @@ ghost use Rattle.world.specs.Worlds.{world_of};
 ghost use Rattle.explore.specs.Marked.{places_in};
 ghost use Rattle.explore.specs.Gathering.{Grew};
 
+use crate::items::own_records;
 use crate::marks::is_marked;
 use crate::player::Player;
 use inventory::Inventory;
@@ -19,7 +20,8 @@ impl<I: Inventory> Player<'_, I> {
         ensures world { self.new.world ≡ self.old.world }
         ensures held { I.Inventory.value self.new.held ≡ with_items I.Inventory.meaning (world_of self.old.world.now) (I.Inventory.value self.old.held) (lying placement.now (places_in (world_of self.old.world.now) places.now)) }
     {
-        for (k, lies) in placement.iter().enumerate() {
+        let own = own_records(self.world, placement);
+        for (k, lies) in own.iter().enumerate() {
             if is_marked(self.world, k, places) {
                 self.add_lying(*lies);
             }

@@ -5,6 +5,7 @@ ghost use Rattle.model.specs.Placements.{lying, whole as whole_of};
 ghost use Rattle.world.specs.Worlds.{world_of};
 ghost use Rattle.explore.specs.Marked.{places_in};
 
+use crate::items::own_records;
 use crate::marks::is_marked;
 use crate::player::Player;
 use inventory::Inventory;
@@ -15,7 +16,8 @@ use world::World;
 fn lies_marked(world: &World, placement: &[Option<u16>], item: u16, places: &Places) -> bool
     ensures { result ≡ any (nat_eq item) (lying placement.now (places_in (world_of world.now) places.now)) }
 {
-    placement.iter().enumerate().any(|(k, lies)| *lies == Some(item) && is_marked(world, k, places))
+    own_records(world, placement).iter().enumerate().any(|(k, lies)| *lies == Some(item)
+        && is_marked(world, k, places))
 }
 
 // Whether each item of the pool lies at a place gathered from the stock: asked of a world, as a sphere is.

@@ -1,4 +1,4 @@
-use Rattle.std.proofs.Common.{◌≡◌, ◌+◌, ◌-◌, length, sym, ap, ◌∙◌, subst, arith}
+use Rattle.std.proofs.Common.{◌≡◌, ◌+◌, ◌-◌, length, Some, sym, ap, ◌∙◌, subst, arith}
 use Rattle.model.specs.Marks.{at, Sub, first}
 use Rattle.model.specs.Worlds.{stocked}
 use Rattle.model.specs.Placements.{round, gains, sphere}
@@ -46,7 +46,7 @@ returns-then-has g c =
     let start = c.with_stock-start.ensures in
     let many = as_many (spot world) c.places.result.now w.places c.places.ensures.meaning in
     let done = round_done m w p v _ c.loop-round.places c.gather_round-grew.new.places k q start.held (omega arith) c.loop-round.invariant.0 (rw start.world at c.gather_round-grew.ensures.gains) (omega arith) in
-    first_here (length w.places) k (λ r. at (round m w p v r) q) (omega arith) c.loop-round.invariant.1 (done.1 ∙ sym c.if-has.ensures)
+    ap Some (omega arith) ∙ first_here (length w.places) k (λ r. at (round m w p v r) q) (omega arith) c.loop-round.invariant.1 (done.1 ∙ sym c.if-has.ensures)
 
 pub returns-then-not-grew : goal.returns-then-not-grew
 unfolding sphere

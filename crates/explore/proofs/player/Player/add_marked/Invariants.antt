@@ -11,4 +11,4 @@ invariant-loop-k g l =
     let w = world_of l.initial.self.world.now in
     let s = places_in w l.places in
     (l.self.world ≡ l.initial.self.world)
-    × (with_items m w (g.I.Inventory.value l.self.held) (lying (drop l.k l.placement) (drop l.k s)) ≡ with_items m w (g.I.Inventory.value l.initial.self.held) (lying l.placement s))
+    × (with_items m w (g.I.Inventory.value l.self.held) (lying (drop l.k l.own) (drop l.k s)) ≡ with_items m w (g.I.Inventory.value l.initial.self.held) (lying l.own s))
