@@ -1,5 +1,5 @@
 -- Marks in a row of bytes.
-use Rattle.std.proofs.Common.{◌≡◌, ℕ, zero, suc, ◌<◌, ◌≤◌, true, false, not, eqb, List, [], ◌∷◌, length, get_or, set, replicate, refl, ap, sym, ◌∙◌, arith}
+use Rattle.std.proofs.Common.{◌≡◌, ℕ, zero, suc, ◌<◌, ◌≤◌, true, false, not, eqb, List, [], ◌∷◌, ◌++◌, length, get_or, set, replicate, refl, ap, sym, ◌∙◌, arith}
 use Rattle.std.proofs.lemmas.List.{get_or_past, set_past, same_lists, length-replicate, get_or-replicate}
 use Rattle.scratch.specs.Marks.{marked}
 
@@ -44,3 +44,9 @@ pub wiped_row : (n : ℕ) → marked n (replicate n 0) ≡ replicate n false
 unfolding marked
 wiped_row zero = refl
 wiped_row (suc n) = ap (λ l. false ∷ l) (wiped_row n)
+
+-- what lies behind the row is not read
+pub wiped_front : (n : ℕ) (row rest : List ℕ) → row ≡ replicate n 0 → marked n (row ++ rest) ≡ replicate n false
+unfolding marked
+wiped_front zero row rest e = refl
+wiped_front (suc n) row rest e = ap (λ l. marked (suc n) (l ++ rest)) e ∙ ap (λ l. false ∷ l) (wiped_front n (replicate n 0) rest refl)

@@ -3,6 +3,8 @@ use Rattle.std.proofs.Common.{◌≡◌, ℕ, ◌+◌, ◌<◌, ◌≤◌, List,
 use mathlib.Core.List.{reverse-append}
 use lib.ListN.{length-reverse}
 use Rattle.std.proofs.lemmas.List.{take_more_set, take_more, length-take-le}
+use Rattle.scratch.specs.declared.stack.Stack.{Stack}
+use Rattle.scratch.specs.Held.{held, room}
 
 module _ {X : Type 0} (cells : List X) (n : ℕ) where
   pub waiting : n ≤ length cells → length (reverse (take n cells)) ≡ n
@@ -15,3 +17,8 @@ module _ {X : Type 0} (cells : List X) (n : ℕ) where
   popped d m one within =
       let inside : m < length cells = omega arith in
       ap (λ k. reverse (take k cells)) one ∙ ap reverse (take_more cells m d inside) ∙ reverse-append (take m cells) _
+
+-- no more values wait than there is room for
+pub held_fits : {T : Type 0} (s : Stack T) → length (held s) ≤ room s
+unfolding held room
+held_fits s = omega (arith, waiting s.cells.now s.len s.within, s.within)

@@ -41,6 +41,7 @@ impl<const N: usize> Marks for [u8; N] {
         number < N && self[number] != 0
     }
 
+    #[tactic(auto, using(crate::proofs::Rows::write, crate::proofs::Rows::write_past))]
     fn mark(&mut self, number: usize) {
         // No `get_mut`: of an array it leaves a proof without the other elements.
         if number < N {
@@ -48,6 +49,7 @@ impl<const N: usize> Marks for [u8; N] {
         }
     }
 
+    #[tactic(auto, using(crate::proofs::Rows::wiped_row, crate::proofs::Rows::wiped_front))]
     fn clear(&mut self) {
         self.fill(0);
     }

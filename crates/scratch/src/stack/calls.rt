@@ -28,6 +28,7 @@ impl<'a, T: Copy> Stack<'a, T> {
     }
 
     // Takes the newest value off.
+    #[tactic(auto, using(crate::proofs::Stacks::popped, crate::proofs::Stacks::waiting), unfolding(crate::specs::Held::held, crate::specs::Held::room))]
     pub fn pop(&mut self) -> Option<T>
         ensures cases { MatchOption result (Empty self.old self.new) (Taken self.old self.new) }
         ensures room { room self.new ≡ room self.old }
