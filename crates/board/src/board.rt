@@ -1,6 +1,7 @@
 // A board: a placement in the making, and the item in hand.
 ghost use Rattle.std.specs.Prelude.{◌≡◌, ◌<◌, length};
 ghost use Rattle.world.specs.Worlds.{world_of};
+ghost use Rattle.sheet.specs.Tables.{Sound};
 ghost use Rattle.board.specs.Hands.{HandKnown, HandUnset};
 
 use sheet::PlaceTable;
@@ -28,6 +29,7 @@ pub struct Board<'w, I> {
     world: &'w World,
     layout: Layout,
     kind: PhantomData<I>,
+    ghost sound: { Sound layout.table },
     ghost fits: { length layout.table ≡ length (world_of world.now).places },
     ghost hand_known: { HandKnown (world_of world.now) layout.hand },
     ghost hand_unset: { HandUnset layout.table layout.hand },

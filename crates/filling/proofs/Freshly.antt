@@ -56,6 +56,10 @@ put_back [] j item h is = absurd (not-suc-le-zero h)
 put_back (x ∷ xs) zero item h is = ap (λ y. y ∷ xs) is
 put_back (x ∷ xs) (suc j) item h is = ap (λ l. x ∷ l) (put_back xs j item (le_of_suc-le-suc h) is)
 
+-- the same of a list that is known to be what was left
+pub put_back_as : (xs rest : List ℕ) (j item : ℕ) → j < length xs → item ≡ get_or xs j item → rest ≡ remove xs j → insert rest j item ≡ xs
+put_back_as xs rest j item h is e = ap (λ l. insert l j item) e ∙ put_back xs j item h is
+
 -- one of the items is set, and the others stay fresh
 fresh_set : (p : Placement) (left : List ℕ) (j k : ℕ) → j < length left → Fresh p left → Fresh (set p k (Some (get_or left j 0))) (remove left j)
 fresh_set p left j k h fresh =

@@ -1,5 +1,6 @@
 // The attempts of a fill.
 ghost use Rattle.world.specs.Worlds.{world_of};
+ghost use Rattle.sheet.specs.Tables.{Sound};
 ghost use Rattle.filling.specs.Filled.{Filled};
 
 use crate::attempt::Attempt;
@@ -20,8 +21,12 @@ pub fn fill_places<I: Inventory, S: DrawSource>(
     regions: &mut Regions,
     places: &mut Places,
 ) -> Result<u16, NoCandidate>
-    ensures { Filled I.Inventory.meaning (world_of world.now) S.DrawSource.draws attempts (S.DrawSource.state source.old) table.old result (S.DrawSource.state source.new) table.new }
+    ensures filled { Filled I.Inventory.meaning (world_of world.now) S.DrawSource.draws attempts (S.DrawSource.state source.old) table.old result (S.DrawSource.state source.new) table.new }
+    ensures before { Sound table.old }
+    ensures sound { Sound table.new }
 {
+    // Asked for its count, a table tells that it is sound: here as it was, and below as it is left.
+    prove!(table.count() <= 256);
     let mut last = None;
     // The loops have labels by a rule of the project: an attempt is left, by name, at an item without a candidate.
     'attempts: for nth in 1..=attempts {
@@ -29,6 +34,7 @@ pub fn fill_places<I: Inventory, S: DrawSource>(
         'items: loop {
             if attempt.left.is_empty() {
                 *table = attempt.table;
+                prove!(table.count() <= 256);
                 return Ok(nth);
             }
             // No `?`: the next attempt follows.
@@ -38,6 +44,7 @@ pub fn fill_places<I: Inventory, S: DrawSource>(
             }
         }
     }
+    prove!(table.count() <= 256);
     // Where no attempt is to be made, the definition names item 0.
     Err(last.unwrap_or(NoCandidate { item: 0 }))
 }

@@ -2,7 +2,7 @@
 use Rattle.std.proofs.Common.{◌≡◌, ℕ, zero, suc, Bool, ◌<◌, ◌≤◌, true, false, not, ◌||◌, eqb, ltb, nat_eq, ◌⊎◌, [], ◌∷◌, length, take, set, Some, None, Option, sym, refl, ap, ◌∙◌, inl, inr, arith, length-take, get_or-take}
 use Rattle.std.proofs.lemmas.List.{get_or_past, get_or-set_same, get_or-set_other, set_past}
 use Rattle.std.proofs.lemmas.Option.{none-some}
-use Rattle.std.proofs.lemmas.Bool.{cases_lt, cases_eq, eq-eqb, ltb-true, and_parts, not-true, or_left, or_right, both_ways}
+use Rattle.std.proofs.lemmas.Bool.{false≢true, cases_lt, cases_eq, or_cases, eq-eqb, eqb-true, ltb-true, and_parts, not-true, or_left, or_right, both_ways}
 use Rattle.model.specs.Placements.{Placement, item_at, Once}
 use Rattle.std.specs.List.{list_any}
 use Rattle.std.specs.Option.{option_eq}
@@ -44,6 +44,17 @@ found_is answer p q i found same = found ∙ search_is p i ∙ ap (λ x. is_set 
 -- an item that is not set lies nowhere
 pub not_found : (p : Placement) (i k : ℕ) → is_set p i ≡ false → item_at p k ≡ Some i → ⊥
 not_found p i k unset e = both_ways (is_set p i) unset (found_set p i k e)
+
+-- where each item that lies somewhere is small, so is one that is set
+pub set_small : (p : Placement) (i : ℕ) → ((k j : ℕ) → item_at p k ≡ Some j → j < 256) → is_set p i ≡ true → i < 256
+unfolding is_set
+set_small [] i small e = absurd (false≢true e)
+set_small (None ∷ p) i small e = set_small p i (λ k. small (suc k)) e
+set_small (Some j ∷ p) i small e =
+    elim (or_cases (eqb i j) (is_set p i) e) [
+      | inl same ↦ rw (eqb-true i j same) (small 0 j refl)
+      | inr later ↦ set_small p i (λ k. small (suc k)) later
+    ]
 
 -- what lies somewhere after a change is the new record, or lay there before
 pub lay_before : (p : Placement) (n : ℕ) (o : Option ℕ) (j i : ℕ) → item_at (set p n o) j ≡ Some i → ((j ≡ n) × (o ≡ Some i)) ⊎ (item_at p j ≡ Some i)

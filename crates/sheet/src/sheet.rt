@@ -1,5 +1,6 @@
 // A sheet: a placement with its count of places, to be kept in a file.
 ghost use Rattle.std.specs.Prelude.{◌≡◌, []};
+ghost use Rattle.sheet.specs.Tables.{Sound};
 
 use crate::table::PlaceTable;
 
@@ -14,7 +15,8 @@ pub struct Sheet {
 impl Sheet {
     // The sheet of a new world, which has no places.
     pub fn new() -> Sheet
-        ensures { result.table ≡ [] }
+        ensures table { result.table ≡ [] }
+        ensures sound { Sound result.table }
     {
         Sheet {
             table: PlaceTable::new(),

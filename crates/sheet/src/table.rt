@@ -18,6 +18,8 @@ pub struct PlaceTable {
     count: usize,
 }
 
+// Callers see the placement alone, and not what the invariant says of it: so each call that is given a table, makes or
+// leaves one has a clause that does (`Sound`).
 impl Model for PlaceTable {
     ghost use Rattle.model.specs.Placements.{Placement};
 

@@ -1,5 +1,5 @@
 // Lifting an item, putting it back, and taking one up again.
-ghost use Rattle.std.specs.Prelude.{◌≡◌};
+ghost use Rattle.std.specs.Prelude.{◌≡◌, ℕ, ◌<◌, Ok};
 ghost use Rattle.model.specs.Boards.{lifted, put_back, taken_up, left_by, after_take_up};
 ghost use Rattle.board.specs.Tokens.{lift_answer, back_answer};
 ghost use Rattle.board.specs.Boards.{atlas_of, board_of, Left};
@@ -47,6 +47,7 @@ impl<'w, I: Inventory> Board<'w, I> {
     pub fn take_up(&mut self, place: u16) -> Result<u16, BoardRefusal>
         ensures answer { result ≡ taken_up (atlas_of self.old) (board_of self.old) place }
         ensures board { Left self.old (after_take_up (atlas_of self.old) (board_of self.old) place) self.new }
+        ensures small { (i : ℕ) → result ≡ Ok i → i < 256 }
     {
         Ok(self.layout.table.take_up(place as usize)?)
     }

@@ -1,8 +1,9 @@
 // Reading a board.
-ghost use Rattle.std.specs.Prelude.{◌≡◌, length};
+ghost use Rattle.std.specs.Prelude.{◌≡◌, ℕ, ◌<◌, length, Some};
 ghost use Rattle.world.specs.Worlds.{world_of};
 ghost use Rattle.model.specs.Placements.{item_at};
 ghost use Rattle.model.specs.Boards.{is_item, is_set};
+ghost use Rattle.sheet.specs.Tables.{Sound};
 ghost use Rattle.board.specs.Boards.{atlas_of, board_of};
 
 use super::Board;
@@ -28,14 +29,16 @@ impl<'w, I: Inventory> Board<'w, I> {
 
     // What lies at a place; nothing where there is no such place.
     pub fn item_at(&self, place: u16) -> Option<u16>
-        ensures { result ≡ item_at (board_of self.now).placement place }
+        ensures item { result ≡ item_at (board_of self.now).placement place }
+        ensures small { (i : ℕ) → result ≡ Some i → i < 256 }
     {
         self.layout.table.item_at(place as usize)
     }
 
     // A copy of the placement; the board goes on without it.
     pub fn sheet(&self) -> Sheet
-        ensures { result.table ≡ (board_of self.now).placement }
+        ensures table { result.table ≡ (board_of self.now).placement }
+        ensures sound { Sound result.table }
     {
         Sheet {
             table: self.layout.table,

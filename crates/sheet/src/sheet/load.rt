@@ -3,6 +3,7 @@ ghost use Rattle.std.specs.Prelude.{◌≡◌, ◌≤◌, length};
 ghost use Rattle.std.specs.Result.{result_err};
 ghost use Rattle.world.specs.Worlds.{world_of};
 ghost use Rattle.sheet.specs.Changes.{told, left_by};
+ghost use Rattle.sheet.specs.Tables.{Sound};
 ghost use Rattle.sheet.specs.Files.{number as number_of, item_of, entries, entry_refusal, checked, loaded};
 
 use super::Sheet;
@@ -76,8 +77,13 @@ impl Sheet {
     pub fn load(&mut self, world: &World, file: &[u8]) -> Result<(), LoadRefusal>
         ensures answer { result ≡ told (loaded (world_of world.now) file.now) }
         ensures sheet { self.new.table ≡ left_by (loaded (world_of world.now) file.now) self.old.table }
+        ensures before { Sound self.old.table }
+        ensures sound { Sound self.new.table }
     {
+        // Asked for its count, a table tells that it is sound: here the old one, and below the one that was read.
+        prove!(self.table.count() <= 256);
         self.table = read(world, file)?;
+        prove!(self.table.count() <= 256);
         Ok(())
     }
 }

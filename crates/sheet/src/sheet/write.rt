@@ -1,6 +1,7 @@
 // Writing a sheet file.
-ghost use Rattle.std.specs.Prelude.{◌≡◌, ℕ, ◌+◌, ◌/◌, ◌%◌, ◌<◌, ◌≤◌, ◌++◌, length, take, drop, Some};
+ghost use Rattle.std.specs.Prelude.{◌≡◌, ℕ, ◌+◌, ◌/◌, ◌%◌, ◌<◌, ◌≤◌, ◌++◌, length, take, drop, Some, Ok, IsOk};
 ghost use Rattle.model.specs.Placements.{item_at};
+ghost use Rattle.sheet.specs.Tables.{Sound};
 ghost use Rattle.sheet.specs.Files.{entry as entry_of, file_of, two_bytes, write_answer, written};
 
 use super::Sheet;
@@ -25,7 +26,9 @@ fn put_number(buffer: &mut [u8], at: usize, n: u16)
 
 // How many bytes a table's file has.
 fn file_len(table: &PlaceTable) -> usize
-    ensures { result ≡ length (file_of table.now) }
+    ensures size { result ≡ length (file_of table.now) }
+    ensures few { result ≤ 514 }
+    ensures sound { Sound table.now }
 {
     2 + 2 * table.placement().len()
 }
@@ -48,6 +51,9 @@ impl Sheet {
     pub fn write(&self, buffer: &mut [u8]) -> Result<usize, ShortBuffer>
         ensures answer { result ≡ write_answer self.now.table buffer.old }
         ensures buffer { buffer.new ≡ written self.now.table buffer.old }
+        ensures few { (n : ℕ) → result ≡ Ok n → n ≤ 514 }
+        ensures room { 514 ≤ length buffer.old → IsOk result }
+        ensures sound { Sound self.now.table }
     {
         let needed = file_len(&self.table);
         if buffer.len() < needed {

@@ -1,8 +1,9 @@
 // Changing one record of a table.
-ghost use Rattle.std.specs.Prelude.{◌≡◌, ◌<◌, true, [], ◌∷◌, ◌++◌, length, is_ok, if◌then◌else◌, None, slice_set};
+ghost use Rattle.std.specs.Prelude.{◌≡◌, ℕ, ◌<◌, true, [], ◌∷◌, ◌++◌, length, is_ok, if◌then◌else◌, None, Ok, slice_set};
 ghost use Rattle.std.specs.Result.{result_err};
 ghost use Rattle.sheet.specs.Records.{may_lie};
 ghost use Rattle.sheet.specs.Changes.{set_refusal, laid, taken_up, told, left_by};
+ghost use Rattle.sheet.specs.Tables.{Sound};
 
 use super::{PlaceRecord, PlaceTable};
 use crate::refusal::PlaceRefusal;
@@ -12,6 +13,8 @@ impl PlaceTable {
     pub fn set(&mut self, place: usize, item: u16) -> Result<(), PlaceRefusal>
         ensures answer { result ≡ told (laid self.old place item) }
         ensures placement { self.new ≡ left_by (laid self.old place item) self.old }
+        ensures before { Sound self.old }
+        ensures sound { Sound self.new }
     {
         self.check_set(place, item)?;
         self.put(place, Some(item));
@@ -22,6 +25,9 @@ impl PlaceTable {
     pub fn take_up(&mut self, place: usize) -> Result<u16, PlaceRefusal>
         ensures answer { result ≡ taken_up self.old place }
         ensures placement { self.new ≡ (if is_ok result then slice_set self.old place None else self.old) }
+        ensures small { (i : ℕ) → result ≡ Ok i → i < 256 }
+        ensures before { Sound self.old }
+        ensures sound { Sound self.new }
     {
         let found = *self.placement().get(place).ok_or(PlaceRefusal::NoPlace)?;
         let item = found.ok_or(PlaceRefusal::PlaceEmpty)?;
@@ -31,7 +37,8 @@ impl PlaceTable {
 
     // Whether an item may be laid down at a place.
     fn check_set(&self, place: usize, item: u16) -> Result<(), PlaceRefusal>
-        ensures { result_err result ≡ set_refusal self.now place item }
+        ensures refusal { result_err result ≡ set_refusal self.now place item }
+        ensures sound { Sound self.now }
     {
         if place >= self.count() {
             return Err(PlaceRefusal::NoPlace);
@@ -52,7 +59,8 @@ impl PlaceTable {
     fn put(&mut self, place: usize, change: PlaceRecord)
         requires place { place < length self.old }
         requires fresh { may_lie self.old change ≡ true }
-        ensures { self.new ≡ slice_set self.old place change }
+        ensures placement { self.new ≡ slice_set self.old place change }
+        ensures sound { Sound self.new }
     {
         prove!(place < self.count);
         self.records[place] = change;

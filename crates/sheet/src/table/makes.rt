@@ -1,7 +1,7 @@
 // Making a table.
 ghost use Rattle.std.specs.Prelude.{◌≡◌, ◌≤◌, [], length, replicate, None};
 ghost use Rattle.world.specs.Worlds.{world_of};
-ghost use Rattle.sheet.specs.Tables.{blank};
+ghost use Rattle.sheet.specs.Tables.{Sound, blank};
 
 use super::PlaceTable;
 use world::World;
@@ -16,7 +16,8 @@ pub(crate) fn place_count(world: &World) -> usize
 
 fn empty(count: usize) -> PlaceTable
     requires { count ≤ 256 }
-    ensures { result ≡ replicate count None }
+    ensures placement { result ≡ replicate count None }
+    ensures sound { Sound result }
 {
     PlaceTable {
         records: [None; 256],
@@ -27,14 +28,16 @@ fn empty(count: usize) -> PlaceTable
 impl PlaceTable {
     // A table without places, as a new world has none.
     pub fn new() -> PlaceTable
-        ensures { result ≡ [] }
+        ensures placement { result ≡ [] }
+        ensures sound { Sound result }
     {
         empty(0)
     }
 
     // A record for each place of a world, and no item anywhere.
     pub fn for_world(world: &World) -> PlaceTable
-        ensures { result ≡ blank (world_of world.now) }
+        ensures placement { result ≡ blank (world_of world.now) }
+        ensures sound { Sound result }
     {
         empty(place_count(world))
     }

@@ -1,6 +1,6 @@
-use Rattle.std.proofs.Common.{◌+◌, ◌<◌, length, sym, refl, ◌∙◌, arith, eqb-true, false-eqb}
+use Rattle.std.proofs.Common.{◌+◌, ◌<◌, length, Ok, sym, refl, ap, ◌∙◌, arith, eqb-true, false-eqb}
 use Rattle.world.specs.Worlds.{world_of}
-use Rattle.filling.specs.Filled.{ending}
+use Rattle.filling.specs.Filled.{idle, ending}
 use Rattle.filling.proofs.Attempts.{item_fewer, item_set, all_set, attempt_left, attempt_fills, all_fail}
 use Rattle.filling.proofs.fill.fill_places.Goals as goal
 use Rattle.filling.proofs.fill.fill_places.Goals.{else-attempts-test, then-attempts-test+else-is_empty+in-Err+else-nth-attempts}
@@ -16,8 +16,8 @@ items-init g c =
       goes_on = rw (b.left, b.table, c.attempts.invariant.table) refl;
     }
 
-pub returns-then-is_empty : goal.returns-then-is_empty
-returns-then-is_empty g c =
+pub returns-then-is_empty-clause-filled : goal.returns-then-is_empty-clause-filled
+returns-then-is_empty-clause-filled g c =
     let m = g.I.Inventory.meaning in
     let w = world_of c.args.world.now in
     let s = g.S.DrawSource.draws in
@@ -27,6 +27,7 @@ returns-then-is_empty g c =
     sym c.attempts.invariant.goes_on
     ∙ attempt_fills m w s c.args.table.now c.args.attempts c.attempts.nth (state c.attempts.source) _ c.attempts-test.true a.table (state c.items.source)
     (sym c.items.invariant.goes_on ∙ all_set m w s (state c.items.source) a.table a.left.items none)
+    ∙ ap (λ k. record { answer = Ok k; board = idle a.table; state = state c.items.source }) (omega arith)
 
 pub items-smaller : goal.items-smaller
 items-smaller g c =
@@ -76,8 +77,8 @@ attempts-preserved g c =
       goes_on = attempt_left m w s c.args.table.now c.args.attempts c.attempts.nth (state c.attempts.source) _ c.attempts-test.true a.table (state c.items.source) a.left.items inv.goes_on some (state c.set_one.new.source) b.table b.left.items c.in-Err.none.item step ∙ before.goes_on;
     }
 
-pub returns : goal.returns
-returns g c =
+pub returns-clause-filled : goal.returns-clause-filled
+returns-clause-filled g c =
     let m = g.I.Inventory.meaning in
     let w = world_of c.args.world.now in
     let s = g.S.DrawSource.draws in

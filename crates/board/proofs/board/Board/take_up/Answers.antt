@@ -6,4 +6,4 @@ pub invariant_of-self : goal.invariant_of-self
 invariant_of-self g c =
     let b = c.args.self.now in
     let same = kept b.layout.table _ (is_ok c.take_up.result) c.args.place c.take_up.ensures.placement in
-    record { fits = same.0 ∙ b.fits; hand_known = b.hand_known; hand_unset = λ i e. same.1 i (b.hand_unset i e) }
+    record { sound = c.take_up.ensures.sound; fits = same.0 ∙ b.fits; hand_known = b.hand_known; hand_unset = λ i e. same.1 i (b.hand_unset i e) }
