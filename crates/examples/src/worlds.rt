@@ -3,7 +3,7 @@ use crate::world_a;
 use explore::{FewMarks, Player, ask_sphere, ask_whole};
 use inventory::{Family, Inventory, WorldInventory};
 use model::RuleWord;
-use scratch::WORK_MARKS;
+use scratch::{Places, Regions, WORK_MARKS, with_marks};
 use std::test::Fail;
 use world::{BuildRefusal, Draft, World};
 
@@ -94,6 +94,19 @@ fn too_few_marks_are_refused_and_untouched(rt: HostRuntime) -> Result<(), Fail> 
         Err(FewMarks)
     );
     assert_eq!(rt; FewMarks.number(), 19);
+    assert_eq!(rt; few, [9; 319]);
+    Ok(())
+}
+
+#[test]
+fn no_work_is_done_with_too_few_marks(rt: HostRuntime) -> Result<(), Fail> {
+    let mut few = [9; 319];
+    let mut is_called = false;
+    let work = |_: &mut Regions, _: &mut Places| {
+        is_called = true;
+    };
+    assert_eq!(rt; with_marks(&mut few, work), Err(FewMarks));
+    assert!(rt; !is_called);
     assert_eq!(rt; few, [9; 319]);
     Ok(())
 }

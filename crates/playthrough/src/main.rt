@@ -10,7 +10,8 @@ mod row;
 mod tables;
 mod tour;
 
-ghost use Rattle.std.specs.Prelude.{◌≡◌, ◌≤◌, [], OnOk, vec_len};
+ghost use Rattle.std.specs.Prelude.{◌≡◌, ◌≤◌, [], length, OnOk, vec_len};
+ghost use Rattle.playthrough.specs.Dealing.{after_dealing};
 
 use draw::{DrawSource, Drawn, Tape, deal};
 use examples::world_a;
@@ -32,13 +33,14 @@ fn print_standing(rt: &HostRuntime, held: &WorldInventory, item: Item) -> io::Re
     }
 }
 
-// Deals every item.
+// Deals every item: the source is drawn from once for each, and none is left.
 fn deal_all<S: DrawSource>(
     rt: &HostRuntime,
     source: &mut S,
     items: &mut Vec<Item>,
 ) -> io::Result<()>
-    ensures { vec_len items.old ≤ 256 → OnOk result (items.new.items ≡ []) }
+    ensures left { vec_len items.old ≤ 256 → OnOk result (items.new.items ≡ []) }
+    ensures draws { vec_len items.old ≤ 256 → OnOk result (S.DrawSource.state source.new ≡ after_dealing S.DrawSource.draws (S.DrawSource.state source.old) (length items.old.items)) }
 {
     let mut held = WorldInventory::empty();
     while let Some(Drawn { index, item }) = deal(source, items) {

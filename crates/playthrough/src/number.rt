@@ -9,7 +9,8 @@ use std::str::FromStr;
 pub fn number<N: FromStr>(word: &str) -> Result<N, What>
 where
     N::Err: Drop,
-    ensures { MatchResult result (λ n. N.from_str_gives word.now (Ok n)) (λ why. (why ≡ NotANumber) × ((slice_index word.now 0 ≡ 43) ⊎ ((e : _) × N.from_str_gives word.now (Err e)))) }
+    ensures read { MatchResult result (λ n. N.from_str_gives word.now (Ok n)) (λ why. (why ≡ NotANumber) × ((slice_index word.now 0 ≡ 43) ⊎ ((e : _) × N.from_str_gives word.now (Err e)))) }
+    ensures plus { slice_index word.now 0 ≡ 43 → result ≡ Err NotANumber }
 {
     if word.starts_with('+') {
         return Err(What::NotANumber);
