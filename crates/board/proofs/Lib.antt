@@ -1,3 +1,4 @@
+pub mod Making
 pub mod Taking
 pub mod Setting
 pub mod Loose

@@ -23,3 +23,6 @@ module _ (test : ℕ → Bool) (n : ℕ) where
 
   pub none_passes : (i : ℕ) → n ≤ i → passing i ≡ []
   none_passes i h = let none : n - i ≡ 0 = omega arith in ap (λ k. filter test (range_with_len i k)) none
+
+  pub all_passing : passing 0 ≡ filter test (range_with_len 0 n)
+  all_passing = let all : n - 0 ≡ n = omega arith in ap (λ k. filter test (range_with_len 0 k)) all

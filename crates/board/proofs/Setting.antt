@@ -18,6 +18,10 @@ unfolding is_set
 takes p k i inside empty small unset =
     cond-true _ _ _ (lt-ltb _ _ inside) ∙ cond-true _ _ _ empty ∙ cond-true _ _ _ (lt-ltb _ _ small) ∙ cond-false _ _ _ unset
 
+pub err_is : (r : Result Model BoardRefusal) (why : BoardRefusal) → Some why ≡ refusal_of r → r ≡ Err why
+err_is (Ok b) why e = cc
+err_is (Err other) why e = ap Err (cc)
+
 -- a set that is refused leaves the board as it was
 pub kept : (b : Model) (r : Result Model BoardRefusal) (why : BoardRefusal) → Some why ≡ refusal_of r → left_by b r ≡ b
 kept b (Ok b') why e = cc

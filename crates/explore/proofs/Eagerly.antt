@@ -112,6 +112,10 @@ module _ (m : Meaning) (l : Lawful m) (w : Atlas) where
           closed_reached m w final proper (reach_law m l w final proper) r size o.starts
           (subst (λ x. Closed m w x r) (o.valued ∙ ap (λ t. with_items m w v (lying p t)) all) closed) o.regions_sound
 
+-- no place was looked at yet
+pub quiet_none : (m : Meaning) (w : Atlas) (u : m.Value) (r s : List Bool) → Quiet m w false u u r s 0
+quiet_none m w u r s = (refl, λ j l. (let z : ⊥ = omega arith in absurd z))
+
 -- one place more that was looked at
 module _ (m : Meaning) (w : Atlas) (u₀ u : m.Value) (r s : List Bool) (k : ℕ) where
   pub quiet_more : (b : Bool) → Quiet m w b u₀ u r s k → (q : Spot) → k < length w.places → q ≡ get_or w.places k q → (In r q.region → T (reads (held m u) q.rule) → In s k) → Quiet m w b u₀ u r s (k + 1)

@@ -1,4 +1,5 @@
 pub mod Known
+pub mod Passing
 pub mod Counting
 pub mod Sweeping
 pub mod Chains

@@ -1,9 +1,9 @@
 -- What lies in a set of places, from one place of a placement to the next.
-use Rattle.std.proofs.Common.{◌≡◌, ℕ, zero, suc, ◌+◌, ◌≤◌, Bool, true, false, cond, ◌&&◌, ◌||◌, eqb, List, [], ◌∷◌, length, take, drop, Some, None, Option, sym, refl, ap, ◌∙◌, inl, inr, add-one, arith}
+use Rattle.std.proofs.Common.{◌≡◌, ℕ, zero, suc, ◌+◌, ◌<◌, ◌≤◌, Bool, true, false, cond, ◌&&◌, ◌||◌, eqb, List, [], ◌∷◌, length, take, drop, Some, None, Option, sym, refl, ap, ◌∙◌, inl, inr, le_of_suc-le-suc, not-suc-le-zero, add-one, arith}
 use Rattle.std.specs.List.{list_any, enumerate_from}
 use Rattle.std.proofs.Math.Seq.{drop-cons}
 use Rattle.std.proofs.lemmas.List.{drop_all, get_or_past}
-use Rattle.std.proofs.lemmas.Bool.{and_right, cases_lt}
+use Rattle.std.proofs.lemmas.Bool.{and_right, or_from, cases_lt}
 use Rattle.inventory.specs.Meaning.{Meaning}
 use Rattle.model.specs.Marks.{at, any}
 use Rattle.model.specs.Worlds.{World as Atlas, with_items}
@@ -17,6 +17,9 @@ lying_nowhere (o ∷ p) = refl
 
 pub lying_end : (p : Placement) (s : List Bool) (k : ℕ) → length p ≤ k → lying (drop k p) (drop k s) ≡ []
 lying_end p s k h = ap (λ l. lying l (drop k s)) (drop_all k p h)
+
+pub lying_past : (p : Placement) (s : List Bool) (k : ℕ) → length s ≤ k → lying (drop k p) (drop k s) ≡ []
+lying_past p s k h = ap (lying (drop k p)) (drop_all k s h) ∙ lying_nowhere (drop k p)
 
 -- what lies behind a set's end counts for nothing
 pub lying_own : (p : Placement) (s : List Bool) (n : ℕ) → length s ≤ n → lying (take n p) s ≡ lying p s
@@ -70,3 +73,21 @@ module _ (i : ℕ) (s : List Bool) where
             ∙ ap (λ t. any (eqb i) (lying p t)) (drop_all (n + 1) s (omega arith)) ∙ ap (any (eqb i)) (lying_nowhere p)
             ∙ sym (ap (λ t. any (eqb i) (lying (o ∷ p) t)) (drop_all n s past))
       ]
+
+-- whether an item lies at place k, if the place is in the set, or after it
+module _ (i : ℕ) where
+  found_at : (p : Placement) (s : List Bool) (k : ℕ) → k < length s
+      → any (eqb i) (lying (drop k p) (drop k s)) ≡ ((at s k && is_item i (item_at p k)) || any (eqb i) (lying (drop (suc k) p) (drop (suc k) s)))
+  found_at p [] k h = absurd (not-suc-le-zero h)
+  found_at [] (true ∷ s) zero h = refl
+  found_at [] (false ∷ s) zero h = refl
+  found_at (None ∷ p) (true ∷ s) zero h = refl
+  found_at (None ∷ p) (false ∷ s) zero h = refl
+  found_at (Some j ∷ p) (true ∷ s) zero h = refl
+  found_at (Some j ∷ p) (false ∷ s) zero h = refl
+  found_at [] (b ∷ s) (suc k) h = sym (or_from (at s k && false) false (and_right (at s k) false refl) refl)
+  found_at (o ∷ p) (b ∷ s) (suc k) h = found_at p s k (le_of_suc-le-suc h)
+
+  pub found_step : (p : Placement) (s : List Bool) (k : ℕ) → k < length s
+      → any (eqb i) (lying (drop k p) (drop k s)) ≡ ((at s k && is_item i (item_at p k)) || any (eqb i) (lying (drop (k + 1) p) (drop (k + 1) s)))
+  found_step p s k h = found_at p s k h ∙ ap (λ n. (at s k && is_item i (item_at p k)) || any (eqb i) (lying (drop n p) (drop n s))) (sym (add-one k))

@@ -32,3 +32,11 @@ module _ (w : Atlas) (row : List ℕ) where
   pub places_in_set : (after : List ℕ) (k : ℕ) → place_marks after ≡ set (place_marks row) k true → places_in w after ≡ set (places_in w row) k true
   unfolding places_in
   places_in_set after k e = ap (take (length w.places)) e ∙ take_set_any (length w.places) (place_marks row) k true
+
+  pub places_in_kept : (after : List ℕ) → place_marks after ≡ place_marks row → places_in w after ≡ places_in w row
+  unfolding places_in
+  places_in_kept after e = ap (take (length w.places)) e
+
+  pub regions_in_kept : (after : List ℕ) → region_marks after ≡ region_marks row → regions_in w after ≡ regions_in w row
+  unfolding regions_in
+  regions_in_kept after e = ap (take w.regions) e

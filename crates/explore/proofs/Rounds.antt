@@ -18,6 +18,10 @@ module _ (m : Meaning) (w : Atlas) (p : Placement) (v : m.Value) where
   unfolding round
   round_none places proper e = no_places_in w places proper e ∙ splat_is_map w.places (length w.places) false refl
 
+  pub round_next : (s t : List Bool) (k : ℕ) → s ≡ round m w p v k → t ≡ gains m w p v s → t ≡ round m w p v (suc k)
+  unfolding round
+  round_next s t k e f = f ∙ ap (gains m w p v) e
+
   pub round_below : Lawful m → (s : List Bool) (k : ℕ) → s ≡ round m w p v k → Sub s (gains m w p v s)
   unfolding round
   round_below l s k e j t = subst (λ x. In x j) (sym (ap (gains m w p v) e)) (round_rises m l w p v k j (subst (λ x. In x j) e t))
@@ -50,6 +54,10 @@ module _ (n k : ℕ) (f : ℕ → Bool) (h : k ≤ n) (e : first (n + 1 - k) k f
 
   pub first_end : n ≤ k → f k ≡ false → None ≡ first n 1 f
   first_end all t = let none : n - k ≡ 0 = omega arith in sym (ap (λ j. first j (suc k) f) none) ∙ later t
+
+-- none of n numbers passes where none is left
+pub first_none : (n i : ℕ) (f : ℕ → Bool) → n ≤ i → first (n - i) (suc i) f ≡ first n 1 f → None ≡ first n 1 f
+first_none n i f h e = let none : n - i ≡ 0 = omega arith in sym (ap (λ k. first k (suc i) f) none) ∙ e
 
 first_never : (n k : ℕ) (f : ℕ → Bool) → ((j : ℕ) → f (k + j) ≡ false) → first n k f ≡ None
 first_never zero k f h = refl

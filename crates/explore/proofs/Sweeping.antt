@@ -108,6 +108,9 @@ module _ (m : Meaning) (w : Atlas) (v : m.Value) where
   widened x s h s' h' a [] b = tt
   widened x s h s' h' a (g ∷ gates) b = (a.settled (x ∷ []) g b.0, widened x s h s' h' a gates b.1)
 
+  pub underway_start : (s s₁ : List Bool) (h₁ : List ℕ) → Widens m w v s [] s₁ h₁ → AllByRecursion (Settled m v h₁ s₁) w.gates → Underway m w v s₁ s₁ h₁
+  underway_start s s₁ h₁ a b = record { keeps = λ k t. t; sound = λ t c i. i; space = (let new = a.waits in omega arith); settled = b }
+
   pub underway_turn : (s₀ s : List Bool) (x : ℕ) (h : List ℕ) (s' : List Bool) (h' : List ℕ) → Underway m w v s₀ s (x ∷ h) → Widens m w v s h s' h' → Left m w v x h' s' → Underway m w v s₀ s' h'
   underway_turn s₀ s x h s' h' u a b =
       let new = a.waits in

@@ -16,7 +16,7 @@ use Rattle.filling.specs.Filled.{idle, ending}
 module _ (m : Meaning) (w : Atlas) (s : Source) where
   module _ (x : s.State) (p : Placement) (left : List ℕ) (some : 0 < length left) (x' : s.State) (p' : Placement) (left' : List ℕ) where
     -- an item without a candidate ends the attempt
-    item_ends : (item : ℕ) → SetNone m w s x p left x' p' left' item → ending m w s x p left ≡ stuck item x'
+    pub item_ends : (item : ℕ) → SetNone m w s x p left x' p' left' item → ending m w s x p left ≡ stuck item x'
     unfolding ending picked others
     item_ends item step =
         let n = length left - 1 in
@@ -57,6 +57,10 @@ module _ (m : Meaning) (w : Atlas) (s : Source) where
   unfolding ending
   all_set x p left none = ap (λ n. attempt m w s n x p left) none
 
+  -- each attempt begins with the items that are not set
+  pub attempt_begins : (x : s.State) (start p : Placement) (left : List ℕ) → p ≡ start → left ≡ unset w p → ending m w s x start (unset w start) ≡ ending m w s x p left
+  attempt_begins x start p left same all = ap (λ q. ending m w s x q (unset w q)) (sym same) ∙ ap (ending m w s x p) (sym all)
+
   -- what follows the end of an attempt, the nth, with more of them to come
   abbrev judged : Placement → (more nth : ℕ) → Outcome s.State → Filling s.State
   judged p more nth o =
@@ -66,7 +70,7 @@ module _ (m : Meaning) (w : Atlas) (s : Source) where
       ]
 
   module _ (p : Placement) (attempts nth : ℕ) (x : s.State) (last : ℕ) (more : nth ≤ attempts) where
-    attempt_fails : (item : ℕ) (x' : s.State) → ending m w s x p (unset w p) ≡ stuck item x' →
+    pub attempt_fails : (item : ℕ) (x' : s.State) → ending m w s x p (unset w p) ≡ stuck item x' →
         tries m w s (idle p) (attempts + 1 - (nth + 1)) (nth + 1) x' item ≡ tries m w s (idle p) (attempts + 1 - nth) nth x last
     unfolding ending
     attempt_fails item x' e =

@@ -13,7 +13,7 @@ use Rattle.sheet.specs.Changes.{unless, laid, left_by}
 use Rattle.draw.specs.Source.{Source, Fair}
 use Rattle.filling.specs.Steps.{Fresh, picked, others}
 
-fresh_item : (p : Placement) (left : List ℕ) (j : ℕ) → j < length left → Fresh p left → (get_or left j 0 < 256) × (is_set p (get_or left j 0) ≡ false)
+pub fresh_item : (p : Placement) (left : List ℕ) (j : ℕ) → j < length left → Fresh p left → (get_or left j 0 < 256) × (is_set p (get_or left j 0) ≡ false)
 unfolding Fresh
 fresh_item p [] j h fresh = absurd (not-suc-le-zero h)
 fresh_item p (i ∷ left) zero h fresh = (fresh.0, fresh.1)
@@ -61,7 +61,7 @@ pub put_back_as : (xs rest : List ℕ) (j item : ℕ) → j < length xs → item
 put_back_as xs rest j item h is e = ap (λ l. insert l j item) e ∙ put_back xs j item h is
 
 -- one of the items is set, and the others stay fresh
-fresh_set : (p : Placement) (left : List ℕ) (j k : ℕ) → j < length left → Fresh p left → Fresh (set p k (Some (get_or left j 0))) (remove left j)
+pub fresh_set : (p : Placement) (left : List ℕ) (j k : ℕ) → j < length left → Fresh p left → Fresh (set p k (Some (get_or left j 0))) (remove left j)
 fresh_set p left j k h fresh =
     let rest = fresh_removed p left j h fresh in fresh_kept p k (get_or left j 0) (remove left j) rest.1 rest.0
 

@@ -1,5 +1,5 @@
 -- Which places of a world pass a test that looks at their marks.
-use Rattle.std.proofs.Common.{◌≡◌, ℕ, zero, suc, ◌+◌, ◌<◌, Bool, true, false, cond, ◌&&◌, List, [], ◌∷◌, length, get_or, filter, sym, refl, subst, ap, ◌∙◌, arith}
+use Rattle.std.proofs.Common.{◌≡◌, ℕ, zero, suc, ◌+◌, ◌-◌, ◌<◌, ◌≤◌, Bool, true, false, cond, ◌&&◌, List, [], ◌∷◌, length, get_or, filter, sym, refl, subst, ap, ◌∙◌, arith}
 use Rattle.std.specs.List.{range_with_len, AllByRecursion}
 use Rattle.std.proofs.ByRecursion.{All-get_or}
 use Rattle.std.proofs.lemmas.Bool.{cond_both, and_parts}
@@ -22,12 +22,50 @@ filter_agrees f h a (suc n) same =
     ap (λ b. cond b (a ∷ filter f (range_with_len (a + 1) n)) (filter f (range_with_len (a + 1) n))) (same a (omega arith))
     ∙ ap (λ l. cond (h a) (a ∷ l) l) rest
 
+-- those from k on to below n
+abbrev pub from_on : (ℕ → Bool) → ℕ → ℕ → List ℕ
+from_on f n k = filter f (range_with_len k (n - k))
+
+module _ (f : ℕ → Bool) (n : ℕ) where
+  step : (k : ℕ) → k < n → from_on f n k ≡ cond (f k) (k ∷ from_on f n (k + 1)) (from_on f n (k + 1))
+  step k h = let e : n - k ≡ suc (n - (k + 1)) = omega arith in ap (λ j. filter f (range_with_len k j)) e
+
+  pub from_start : from_on f n 0 ≡ filter f (range_with_len 0 n)
+  from_start = let e : n - 0 ≡ n = omega arith in ap (λ j. filter f (range_with_len 0 j)) e
+
+  pub from_here : (k : ℕ) → k < n → f k ≡ true → from_on f n k ≡ k ∷ from_on f n (k + 1)
+  from_here k h here = step k h ∙ ap (λ b. cond b (k ∷ from_on f n (k + 1)) (from_on f n (k + 1))) here
+
+  pub from_next : (k : ℕ) → k < n → f k ≡ false → from_on f n k ≡ from_on f n (k + 1)
+  from_next k h not_here = step k h ∙ ap (λ b. cond b (k ∷ from_on f n (k + 1)) (from_on f n (k + 1))) not_here
+
+  pub from_end : (k : ℕ) → n ≤ k → from_on f n k ≡ []
+  from_end k h = let e : n - k ≡ 0 = omega arith in ap (λ j. filter f (range_with_len k j)) e
+
+-- the empty and marked places of the world from k on
+abbrev pub rest_from : Atlas → Placement → List Bool → ℕ → List ℕ
+rest_from w p g k = from_on (fits_at p g) (length w.places) k
+
+pub rest_all : (w : Atlas) (p : Placement) (g : List Bool) → rest_from w p g 0 ≡ empty_marked w p g
+unfolding empty_marked
+rest_all w p g = from_start (fits_at p g) (length w.places)
+
+module _ (w : Atlas) (p : Placement) (row : List ℕ) (k : ℕ) (h : k < length w.places) where
+  -- a place of the world is marked just if its mark is set
+  pub fits_marked : fits_at p (places_in w row) k ≡ fits_at p (place_marks row) k
+  unfolding places_in
+  fits_marked = ap (λ b. no_item (item_at p k) && b) (get_or-take (length w.places) (place_marks row) k false h)
+
+  pub rest_here : true ≡ fits_at p (place_marks row) k → rest_from w p (places_in w row) k ≡ k ∷ rest_from w p (places_in w row) (k + 1)
+  rest_here e = from_here (fits_at p (places_in w row)) (length w.places) k h (fits_marked ∙ sym e)
+
+  pub rest_next : false ≡ fits_at p (place_marks row) k → rest_from w p (places_in w row) k ≡ rest_from w p (places_in w row) (k + 1)
+  rest_next e = from_next (fits_at p (places_in w row)) (length w.places) k h (fits_marked ∙ sym e)
+
 -- the marks of the world's own places are enough
 pub own_marks : (w : Atlas) (p : Placement) (row : List ℕ) → filter (fits_at p (place_marks row)) (range_with_len 0 (length w.places)) ≡ empty_marked w p (places_in w row)
-unfolding empty_marked places_in
-own_marks w p row =
-    filter_agrees (fits_at p (place_marks row)) (fits_at p (places_in w row)) 0 (length w.places) (λ k lt.
-    sym (ap (λ b. no_item (item_at p k) && b) (get_or-take (length w.places) (place_marks row) k false (omega arith))))
+unfolding empty_marked
+own_marks w p row = filter_agrees (fits_at p (place_marks row)) (fits_at p (places_in w row)) 0 (length w.places) (λ k lt. sym (fits_marked w p row k (omega arith)))
 
 all_pass : (f : ℕ → Bool) (xs : List ℕ) → AllByRecursion (λ k. f k ≡ true) (filter f xs)
 all_pass f [] = tt

@@ -5,7 +5,7 @@ use Rattle.inventory.specs.Keyset.{keys, set_of}
 use Rattle.inventory.specs.Capped.{levels, up_to, levels_of}
 use Rattle.inventory.specs.CappedLaws.{same_levels}
 
-get_or-replicate_same : {A : Type 0} (n i : ℕ) (a : A) → get_or (replicate n a) i a ≡ a
+pub get_or-replicate_same : {A : Type 0} (n i : ℕ) (a : A) → get_or (replicate n a) i a ≡ a
 get_or-replicate_same zero i a = refl
 get_or-replicate_same (suc n) zero a = refl
 get_or-replicate_same (suc n) (suc i) a = get_or-replicate_same n i a

@@ -1,7 +1,14 @@
 -- Marks in a row of bytes.
-use Rattle.std.proofs.Common.{◌≡◌, ℕ, zero, suc, ◌<◌, ◌≤◌, true, false, not, eqb, List, [], ◌∷◌, ◌++◌, length, get_or, set, replicate, refl, ap, sym, ◌∙◌, arith}
-use Rattle.std.proofs.lemmas.List.{get_or_past, set_past, same_lists, length-replicate, get_or-replicate}
+use Rattle.std.proofs.Common.{◌≡◌, ℕ, zero, suc, ◌<◌, ◌≤◌, true, false, not, eqb, List, [], ◌∷◌, ◌++◌, length, get_or, take, set, replicate, refl, ap, sym, ◌∙◌, inl, inr, arith}
+use Rattle.std.proofs.lemmas.Bool.{cases_lt}
+use Rattle.std.proofs.lemmas.List.{get_or_default, get_or_past, set_past, same_lists, length-replicate, get_or-replicate}
 use Rattle.scratch.specs.Marks.{marked}
+
+pub take_set : {X : Type 0} (n : ℕ) (xs : List X) (i : ℕ) (x : X) → take n (set xs i x) ≡ set (take n xs) i x
+take_set zero xs i x = refl
+take_set (suc n) [] i x = refl
+take_set (suc n) (y ∷ xs) zero x = refl
+take_set (suc n) (y ∷ xs) (suc i) x = ap (λ l. y ∷ l) (take_set n xs i x)
 
 -- a row of one value
 pub filled : (n v : ℕ) (row : List ℕ) → length row ≡ n → ((k d : ℕ) → k < n → get_or row k d ≡ v) → row ≡ replicate n v
@@ -39,6 +46,20 @@ pub write_past : (n : ℕ) (row : List ℕ) (i : ℕ) → n ≤ i → marked n r
 write_past n row i past =
     let beyond : length (marked n row) ≤ i = omega (arith, length_marked n row) in
     sym (set_past (marked n row) i true beyond)
+
+pub write_behind : (n : ℕ) (row : List ℕ) (i : ℕ) → n ≤ i → marked n (set row i 1) ≡ marked n row
+unfolding marked
+write_behind zero row i past = refl
+write_behind (suc n) [] i past = refl
+write_behind (suc n) (byte ∷ row) zero past = absurd (omega arith)
+write_behind (suc n) (byte ∷ row) (suc i) past = ap (λ l. not (eqb byte 0) ∷ l) (write_behind n row i (omega arith))
+
+-- of a row that is long enough the number may be any, and so may what is read past its end
+pub write_any : (n : ℕ) (row : List ℕ) (i : ℕ) → n ≤ length row → marked n (set row i 1) ≡ set (marked n row) i true
+write_any n row i enough = elim (cases_lt i n) [ inl lt ↦ write n row i lt enough | inr past ↦ write_behind n row i past ∙ write_past n row i past ]
+
+pub read_any : (n : ℕ) (row : List ℕ) (i x : ℕ) → i < n → n ≤ length row → not (eqb (get_or row i x) 0) ≡ get_or (marked n row) i false
+read_any n row i x lt enough = ap (λ byte. not (eqb byte 0)) (get_or_default row i x 0 (omega arith)) ∙ read n row i lt
 
 pub wiped_row : (n : ℕ) → marked n (replicate n 0) ≡ replicate n false
 unfolding marked

@@ -30,6 +30,14 @@ pub record Halfway (pool : ℕ) (seen : Placement) (left bytes : List ℕ) : Typ
   pub places : seen ++ entries left ≡ entries bytes
   pub room : 2 * length seen + length left ≤ 512
 
+pub nothing_seen : (pool : ℕ) (seen : Placement) (bytes : List ℕ) → seen ≡ [] → length bytes ≤ 512 → Halfway pool seen bytes bytes
+nothing_seen pool seen bytes none few =
+    record {
+      refuses = ap (λ (p : Placement). entries_refusal pool p (entries bytes)) none;
+      places = ap (λ (p : Placement). p ++ entries bytes) none;
+      room = omega (arith, ap length none);
+    }
+
 module _ (pool : ℕ) (seen : Placement) (left bytes : List ℕ) (o : Option ℕ) (half : Halfway pool seen left bytes) (named : o ≡ item_of (number (get_or left 0 0) (get_or left 1 0))) (two : 2 ≤ length left) where
   abbrev rest : List ℕ
   rest = take (length left - 2) (drop 2 left)

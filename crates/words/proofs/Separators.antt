@@ -11,6 +11,23 @@ use Rattle.words.specs.Spelling.{Bytes, wording, is_word, sized}
 use Rattle.words.specs.Splitting.{front, behind, parts, glued, lacks}
 use Rattle.words.specs.Laws.{SplittingLaws, SeparatorLaws}
 
+-- there is a first part
+abbrev pub SomePart : List Bytes → Type 0
+SomePart ps = (q : Bytes) × ((qs : List Bytes) × (ps ≡ q ∷ qs))
+
+onto_some : (x : ℕ) (ps : List Bytes) → SomePart (onto_first x ps)
+onto_some x [] = (x ∷ [], ([], refl))
+onto_some x (p ∷ ps) = (x ∷ p, (ps, refl))
+
+parts_some_at : (x : ℕ) (ps : List Bytes) (t : Bool) → SomePart (cond t ([] ∷ ps) (onto_first x ps))
+parts_some_at x ps true = ([], (ps, refl))
+parts_some_at x ps false = onto_some x ps
+
+pub parts_some : (b : ℕ) (xs : Bytes) → SomePart (parts b xs)
+unfolding parts
+parts_some b [] = ([], ([], refl))
+parts_some b (x ∷ xs) = parts_some_at x (parts b xs) (eqb x b)
+
 -- a row that lacks the separator, byte by byte
 none_is : (b : ℕ) (xs : Bytes) → lacks b xs ≡ true → All (λ x. (x == b) ≡ false) xs
 none_is b xs h = λ k d l. not-true _ (AllPass-from_list_all (λ x. not (x == b)) xs h k d l)

@@ -1,10 +1,10 @@
 -- Rows cut at their first separator.
-use Rattle.std.proofs.Common.{◌≡◌, ℕ, ◌+◌, ◌<◌, ◌≤◌, Bool, true, cond, not, ltb, ◌==◌, ◌∷◌, ◌++◌, length, take, drop, position, Some, None, Option, sym, ap, ◌∙◌, arith}
+use Rattle.std.proofs.Common.{◌≡◌, ℕ, ◌+◌, ◌<◌, ◌≤◌, Bool, true, cond, not, ltb, ◌==◌, ◌∷◌, ◌++◌, length, take, drop, position, Some, None, Option, sym, refl, ap, ◌∙◌, arith, length-take}
 use Rattle.std.specs.List.{position_or_len}
 use Rattle.std.proofs.lemmas.Grind.{common_steps}
-use Rattle.std.proofs.lemmas.Bool.{eqb-true}
+use Rattle.std.proofs.lemmas.Bool.{eqb-true, cond-true, cond-false, lt-ltb, le-ltb}
 use Rattle.std.proofs.lemmas.Bool.Decides.{nat_tests}
-use Rattle.std.proofs.lemmas.List.{take_all, drop_all}
+use Rattle.std.proofs.lemmas.List.{take_all, take_min, drop_all}
 use Rattle.std.proofs.lemmas.List.Sums.{fails_before_first, passes_at_first, split_at_first, list_all-from_AllPass}
 use Rattle.std.proofs.lemmas.List.Splits.{slice_split_none, slice_split_first}
 use Rattle.words.specs.Spelling.{Bytes}
@@ -58,3 +58,22 @@ cut_at b i xs before after e f g =
       parts_is = cc;
       size = grind (arith, common_steps);
     }
+
+-- the same, told by the front's length
+module _ (b : ℕ) (xs : Bytes) where
+  abbrev at : ℕ
+  at = position_or_len (λ x. x == b) xs
+
+  pub front_take : take (length (front b xs)) xs ≡ front b xs
+  front_take = ap (λ n. take n xs) (length-take at xs) ∙ take_min at xs
+
+  pub whole_front : length xs ≤ length (front b xs) → Whole b xs
+  whole_front h = whole b xs (cond-false _ _ _ (le-ltb at (length xs) (omega (arith, length-take at xs))))
+
+  pub behind_front : length (front b xs) < length xs → xs ≡ front b xs ++ b ∷ behind b xs
+  behind_front h = front_behind b xs (omega (arith, length-take at xs))
+
+  pub cut_front : (n : ℕ) → n ≡ length (front b xs) → n < length xs → Cut b xs (take n xs) (drop (n + 1) xs)
+  cut_front n e h =
+      let size : at ≡ n = omega (arith, length-take at xs) in
+      cut_at b n xs (take n xs) (drop (n + 1) xs) (cond-true _ _ _ (lt-ltb at (length xs) (omega arith)) ∙ ap Some size) refl refl

@@ -116,7 +116,7 @@ module _ {before rule : List RuleWord} {part : Part} {table : List RuleWord} (p 
   part_inside : T (inside table part)
   part_inside = let s = p.start in let l = p.len in let n = ap length p.words ∙ length-append before rule in le→leb _ _ (omega arith)
 
-  part_words : words table part ≡ rule
+  pub part_words : words table part ≡ rule
   part_words =
       cond-true (inside table part) _ [] (true_if _ part_inside)
       ∙ ap (λ (ws : List RuleWord). take part.len (drop part.start ws)) p.words
@@ -222,3 +222,7 @@ module _ (d : Draft) {rule : List RuleWord} {part : Part} {table : List RuleWord
       let none = unset_size d.goal e in
       let k = size in
       omega (arith, d.counted)
+
+-- a goal that is a proper rule is sound, whatever its length
+pub sound_goal : (kinds : List ℕ) (table : List RuleWord) (part : Part) → T (rule_sound kinds table part) → T (goal_sound kinds table (Some part))
+sound_goal kinds table part t = t

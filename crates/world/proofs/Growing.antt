@@ -48,6 +48,9 @@ words_kept table more part t =
           ∙ sym (cond-true (inside table part) _ [] (true_if _ t)),
     )
 
+pub goal_inside : (kinds : List ℕ) (table : List RuleWord) (part : Part) → T (goal_sound kinds table (Some part)) → T (inside table part)
+goal_inside kinds table part t = (and_both (inside table part) _ t).0
+
 pub region_more : (regions regions' : ℕ) (kinds : List ℕ) (table : List RuleWord) → regions ≤ regions' → Grows regions kinds table regions' kinds table
 region_more regions regions' kinds table more = record { more_regions = more; more_kinds = λ code t. t; more_words = λ part t. (t, refl) }
 

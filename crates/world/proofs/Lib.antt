@@ -5,4 +5,5 @@ pub mod Tables
 pub mod Making
 pub mod Adding
 pub mod Counting
+pub mod Blank
 pub mod Finished

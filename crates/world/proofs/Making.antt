@@ -1,14 +1,14 @@
 -- One row more in a draft, taken in or refused.
-use Rattle.std.proofs.Common.{◌≡◌, ℕ, ◌+◌, Bool, true, false, cond, ◌&&◌, T, leb, List, [], ◌∷◌, ◌++◌, length, is_ok, Some, None, Ok, Err, Result, OnOk, OnErr, sym, subst}
-use Rattle.std.proofs.lemmas.Bool.{false≢true}
+use Rattle.std.proofs.Common.{◌≡◌, ℕ, ◌+◌, Bool, true, false, cond, ◌&&◌, T, ltb, leb, List, [], ◌∷◌, ◌++◌, length, is_ok, Some, None, Ok, Err, Result, OnOk, OnErr, sym, ◌∙◌, subst}
+use Rattle.std.proofs.lemmas.Bool.{cond-true, false≢true}
 use Rattle.std.proofs.lemmas.Option.{none-some}
 use Rattle.model.specs.declared.rule_word.RuleWord.{RuleWord}
 use Rattle.model.specs.Marks.{every}
 use Rattle.model.specs.Rules.{formed}
-use Rattle.model.specs.Proper.{names_kinds, proper_rule}
-use Rattle.model.proofs.Sets.{and_both, and_from}
+use Rattle.model.specs.Proper.{of_kinds, names_kinds, proper_rule}
+use Rattle.model.proofs.Sets.{and_both, and_from, true_if}
 use Rattle.world.specs.declared.refusal.BuildRefusal.{BuildRefusal}
-use Rattle.world.specs.Building.{rule_fits, rule_refusal}
+use Rattle.world.specs.Building.{item_refusal, rule_fits, rule_refusal}
 use Rattle.world.specs.Listed.{listed}
 use Rattle.world.specs.declared.table.Table.{Table}
 
@@ -27,6 +27,32 @@ pub pushed_or_kept : {A E : Type 0} {max : ℕ} (P : List A → Type 0) (r : Res
     → OnOk r (listed new ≡ listed old ++ row ∷ []) → OnErr r (new ≡ old) → P (listed old) → P (listed old ++ row ∷ []) → P (listed new)
 pushed_or_kept P (Ok x) old new row e k before after = subst P (sym e) after
 pushed_or_kept P (Err why) old new row e k before after = subst (λ t. P (listed t)) (sym k) before
+
+-- rows behind a list that has room for them
+pub joined_on : {A : Type 0} (xs more ys : List A) (fits fitting : Bool) → fits ≡ fitting → T fitting → ys ≡ cond fits (xs ++ more) xs → ys ≡ xs ++ more
+joined_on xs more ys fits fitting e t h = h ∙ cond-true fits (xs ++ more) xs (e ∙ true_if fitting t)
+
+-- what is known of an item that is not refused
+item_cases : (known room : Bool) (no_kind no_room : BuildRefusal) → None ≡ cond known (cond room None (Some no_room)) (Some no_kind) → T known × T room
+item_cases true true no_kind no_room e = (tt, tt)
+item_cases true false no_kind no_room e = absurd (none-some no_room e)
+item_cases false room no_kind no_room e = absurd (none-some no_kind e)
+
+-- an item that is taken into a list of at most some
+pub record ListedNow (kinds xs ys : List ℕ) (code : ℕ) : Type 0 where
+  pub known : T (of_kinds kinds code)
+  pub pushed : ys ≡ xs ++ code ∷ []
+
+pub item_listed : (kinds xs ys : List ℕ) (code most : ℕ) (fits : Bool) → item_refusal kinds (ltb (length xs) most) code ≡ None → fits ≡ ltb (length xs) most → ys ≡ cond fits (xs ++ code ∷ []) xs
+    → ListedNow kinds xs ys code
+item_listed kinds xs ys code most fits none fitting rows =
+    let facts = item_cases (of_kinds kinds code) (ltb (length xs) most) _ _ (sym none) in
+    record { known = facts.0; pushed = joined_on xs (code ∷ []) ys fits (ltb (length xs) most) fitting facts.1 rows }
+
+-- what is known where a single test decides
+pub fits_cases : (b : Bool) (why : BuildRefusal) → cond b None (Some why) ≡ None → T b
+fits_cases true why e = tt
+fits_cases false why e = absurd (none-some why (sym e))
 
 -- what is known of a rule that is not refused
 rule_cases : (a b c : Bool) (x y z : BuildRefusal) → None ≡ cond a (cond b (cond c None (Some x)) (Some y)) (Some z) → T a × (T b × T c)

@@ -28,7 +28,7 @@ length_words table part t =
     ap length (cond-true (inside table part) _ [] (true_if _ t)) ∙ simp (length-take, length-drop) (omega arith)
 
 -- a goal has as many words as its part says, some where it is set, and then it is a proper rule
-goal_length : (kinds : List ℕ) (table : List RuleWord) (goal : Option Part) → T (goal_sound kinds table goal) → length (goal_words table goal) ≡ goal_size goal
+pub goal_length : (kinds : List ℕ) (table : List RuleWord) (goal : Option Part) → T (goal_sound kinds table goal) → length (goal_words table goal) ≡ goal_size goal
 goal_length kinds table None t = refl
 goal_length kinds table (Some part) t = length_words table part (and_both (inside table part) _ t).0
 
@@ -59,14 +59,22 @@ module _ (regions : ℕ) (kinds : List ℕ) (table : List RuleWord) where
   place_inside : (q : Place) → T (place_sound regions kinds table q) → T (inside table q.rule)
   place_inside q t = (and_both (inside table q.rule) _ (and_both (ltb q.region regions) _ t).1).0
 
+  rows_counted : (gates : List Gate) (places : List Place) → T (every (gate_sound regions kinds table) gates) → T (every (place_sound regions kinds table) places)
+      → sum_by (λ (g : Gateway). length g.rule) (map (gate_of table) gates) + sum_by (λ (q : Spot). length q.rule) (map (place_of table) places)
+      ≡ sum_by (λ (g : Gate). g.rule.len) gates + sum_by (λ (q : Place). q.rule.len) places
+  rows_counted gates places a b =
+      ap₂ (λ x y. x + y)
+      (sum_same (gate_sound regions kinds table) (gate_of table) (λ (g : Gate). g.rule.len) (λ (g : Gateway). length g.rule) (λ g t. length_words table g.rule (gate_inside g t)) gates a)
+      (sum_same (place_sound regions kinds table) (place_of table) (λ (q : Place). q.rule.len) (λ (q : Spot). length q.rule) (λ q t. length_words table q.rule (place_inside q t)) places b)
+
   pub words_counted : (gates : List Gate) (places : List Place) (goal : Option Part) → T (every (gate_sound regions kinds table) gates) → T (every (place_sound regions kinds table) places) → T (goal_sound kinds table goal)
       → sum_by (λ (g : Gateway). length g.rule) (map (gate_of table) gates) + sum_by (λ (q : Spot). length q.rule) (map (place_of table) places) + length (goal_words table goal) ≡ words_of gates places goal
-  words_counted gates places goal a b c =
-      ap₂ (λ x y. x + y)
-      (ap₂ (λ x y. x + y)
-      (sum_same (gate_sound regions kinds table) (gate_of table) (λ (g : Gate). g.rule.len) (λ (g : Gateway). length g.rule) (λ g t. length_words table g.rule (gate_inside g t)) gates a)
-      (sum_same (place_sound regions kinds table) (place_of table) (λ (q : Place). q.rule.len) (λ (q : Spot). length q.rule) (λ q t. length_words table q.rule (place_inside q t)) places b))
-      (goal_length kinds table goal c)
+  words_counted gates places goal a b c = ap₂ (λ x y. x + y) (rows_counted gates places a b) (goal_length kinds table goal c)
+
+  -- the same where the goal is only known to lie inside the table
+  pub words_counted_inside : (gates : List Gate) (places : List Place) (goal : Part) → T (every (gate_sound regions kinds table) gates) → T (every (place_sound regions kinds table) places) → T (inside table goal)
+      → sum_by (λ (g : Gateway). length g.rule) (map (gate_of table) gates) + sum_by (λ (q : Spot). length q.rule) (map (place_of table) places) + length (words table goal) ≡ words_of gates places (Some goal)
+  words_counted_inside gates places goal a b c = ap₂ (λ x y. x + y) (rows_counted gates places a b) (length_words table goal c)
 
 -- the words that a draft's rules have together
 pub draft_words : (d : Draft) → words_in (draft_of d) ≡ length (listed d.words)
