@@ -32,12 +32,19 @@ parts_some b (x ∷ xs) = parts_some_at x (parts b xs) (eqb x b)
 none_is : (b : ℕ) (xs : Bytes) → lacks b xs ≡ true → All (λ x. (x == b) ≡ false) xs
 none_is b xs h = λ k d l. not-true _ (AllPass-from_list_all (λ x. not (x == b)) xs h k d l)
 
-pub parts_glued : (b : ℕ) (w : Bytes) (ws : List Bytes) → list_all (lacks b) (w ∷ ws) ≡ true → parts b (glued b (w ∷ ws)) ≡ w ∷ ws
+pub parts_lacks : (b : ℕ) (xs : Bytes) → lacks b xs ≡ true → parts b xs ≡ xs ∷ []
 unfolding parts
-parts_glued b w [] h = slice_split_none (λ x. x == b) w (none_is b w (and_parts (lacks b w) true h).0)
+parts_lacks b xs h = slice_split_none (λ x. x == b) xs (none_is b xs h)
+
+pub parts_next : (b : ℕ) (xs ys : Bytes) → lacks b xs ≡ true → parts b (xs ++ b ∷ ys) ≡ xs ∷ parts b ys
+unfolding parts
+parts_next b xs ys h = slice_split_at (λ x. x == b) xs b ys (none_is b xs h) (eq-eqb b b refl)
+
+pub parts_glued : (b : ℕ) (w : Bytes) (ws : List Bytes) → list_all (lacks b) (w ∷ ws) ≡ true → parts b (glued b (w ∷ ws)) ≡ w ∷ ws
+parts_glued b w [] h = parts_lacks b w (and_parts (lacks b w) true h).0
 parts_glued b w (v ∷ ws) h =
     let k = and_parts (lacks b w) (list_all (lacks b) (v ∷ ws)) h in
-    slice_split_at (λ x. x == b) w b (glued b (v ∷ ws)) (none_is b w k.0) (eq-eqb b b refl) ∙ ap (λ l. w ∷ l) (parts_glued b v ws k.1)
+    parts_next b w (glued b (v ∷ ws)) k.0 ∙ ap (λ l. w ∷ l) (parts_glued b v ws k.1)
 
 onto_clean : (b x : ℕ) (ps : List Bytes) → not (eqb x b) ≡ true → list_all (lacks b) ps ≡ true → list_all (lacks b) (onto_first x ps) ≡ true
 onto_clean b x [] n h = and_from _ _ (and_from _ _ n refl) refl

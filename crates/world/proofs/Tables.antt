@@ -81,6 +81,10 @@ pub draft_words : (d : Draft) → words_in (draft_of d) ≡ length (listed d.wor
 unfolding draft_of
 draft_words d = words_counted (regions_of d) (listed d.kinds) (listed d.words) (listed d.gates) (listed d.places) d.goal d.gates_lead d.places_lie d.goal_kept ∙ d.counted
 
+pub draft_goal : (d : Draft) → length (draft_of d).goal ≡ goal_size d.goal
+unfolding draft_of
+draft_goal d = goal_length (listed d.kinds) (listed d.words) d.goal d.goal_kept
+
 module _ (w : World) where
   gate_proper : (g : Gate) → T (gate_sound (regions_of w.made) (listed w.made.kinds) (listed w.made.words) g) → ProperGate (world_of w) (gate_of (listed w.made.words) g)
   unfolding draft_of world_of
