@@ -3,7 +3,7 @@ use crate::world_a;
 use explore::{FewMarks, Player, ask_sphere, ask_whole};
 use inventory::{Family, Inventory, WorldInventory};
 use model::RuleWord;
-use scratch::{Places, Regions, WORK_MARKS, with_marks};
+use scratch::{Places, Regions, WORK_MARKS, with_marks, with_marks_mut};
 use std::test::Fail;
 use world::{BuildRefusal, Draft, World};
 
@@ -108,6 +108,24 @@ fn no_work_is_done_with_too_few_marks(rt: HostRuntime) -> Result<(), Fail> {
     assert_eq!(rt; with_marks(&mut few, work), Err(FewMarks));
     assert!(rt; !is_called);
     assert_eq!(rt; few, [9; 319]);
+    Ok(())
+}
+
+#[test]
+fn work_that_changes_what_it_borrows_is_done_once(rt: HostRuntime) -> Result<(), Fail> {
+    let mut calls = 0u8;
+    let mut work = |_: &mut Regions, places: &mut Places| {
+        calls = calls.wrapping_add(1);
+        places.fill(1);
+    };
+    let mut few = [9; 319];
+    let mut enough = [9; 321];
+    assert_eq!(rt; with_marks_mut(&mut few, &mut work), Err(FewMarks));
+    assert_eq!(rt; with_marks_mut(&mut enough, &mut work), Ok(()));
+    assert_eq!(rt; calls, 1);
+    assert_eq!(rt; few, [9; 319]);
+    assert_eq!(rt; enough[319], 0);
+    assert_eq!(rt; enough[320], 9);
     Ok(())
 }
 

@@ -1,7 +1,7 @@
 -- What lent bytes hold while and after a call works in the first of them.
 use Rattle.std.proofs.Common.{◌≡◌, ℕ, ◌+◌, ◌<◌, ◌≤◌, cond, List, ◌++◌, length, get_or, take, drop, ap, sym, ◌∙◌, arith}
 use Rattle.std.proofs.lemmas.Bool.{lt-ltb, le-ltb}
-use Rattle.std.proofs.lemmas.List.{drop_at, drop-drop, length-take-le, length-append, append_assoc, length-drop}
+use Rattle.std.proofs.lemmas.List.{drop_at, drop-drop, take-append-drop, length-take-le, length-append, append_assoc, length-drop}
 use Rattle.scratch.proofs.Rows.{filled}
 use Rattle.scratch.specs.Lending.{work_marks, later, wiped, after_call}
 
@@ -11,6 +11,10 @@ module _ (bytes : List ℕ) where
 
   pub zeroed : work_marks ≤ length bytes → wiped (later bytes) ≡ after_call bytes
   zeroed enough = sym (ap (λ b. cond b bytes (wiped (later bytes))) (le-ltb (length bytes) work_marks enough))
+
+  -- the first row and what lies behind it
+  pub halves : (first others : List ℕ) → first ≡ take 64 bytes → others ≡ drop 64 bytes → first ++ others ≡ bytes
+  halves first others e f = simp (e, f) (take-append-drop 64 bytes)
 
   -- the two rows written anew, with what lay behind them
   pub kept : (regions places own : List ℕ) → work_marks ≤ length bytes → own ≡ drop 256 (drop 64 bytes) → length (regions ++ (places ++ own)) ≡ length bytes → later (regions ++ (places ++ own)) ≡ later bytes

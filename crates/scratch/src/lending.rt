@@ -5,8 +5,8 @@ ghost use Rattle.scratch.specs.Lending.{work_marks, later, after_call, Worked};
 use crate::{FewMarks, Places, Regions, WORK_MARKS};
 
 // The bytes that a caller lends, while a call works with them.
-struct Lent<'a> {
-    bytes: &'a mut [u8],
+pub(crate) struct Lent<'a> {
+    pub(crate) bytes: &'a mut [u8],
 }
 
 // However a call ends, its caller finds no mark left behind; too few bytes are untouched.

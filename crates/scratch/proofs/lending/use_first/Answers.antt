@@ -1,14 +1,13 @@
 use Rattle.std.proofs.Common.{◌≡◌, ◌++◌, ap, arith, length}
-use Rattle.std.proofs.lemmas.List.{take-append-drop}
 use Rattle.scratch.specs.Lending.{later}
-use Rattle.scratch.proofs.Lent.{kept}
+use Rattle.scratch.proofs.Lent.{halves, kept}
 use Rattle.scratch.proofs.lending.use_first.Goals as goal
 
 pub returns-in_default-split_first_chunk_mut-clause-few : goal.returns-in_default-split_first_chunk_mut-clause-few
-returns-in_default-split_first_chunk_mut-clause-few g c few = let e : c.in-Some.regions.now ++ c.in-Some.others.now ≡ c.args.bytes.now = simp (c.in-Some.ensures.cases.0, c.in-Some.ensures.cases.1) (take-append-drop 64 c.args.bytes.now) in e
+returns-in_default-split_first_chunk_mut-clause-few g c few = halves _ _ _ c.in-Some.ensures.cases.0 c.in-Some.ensures.cases.1
 
 pub returns-in_default-split_first_chunk_mut-clause-later : goal.returns-in_default-split_first_chunk_mut-clause-later
-returns-in_default-split_first_chunk_mut-clause-later g c = let e : c.in-Some.regions.now ++ c.in-Some.others.now ≡ c.args.bytes.now = simp (c.in-Some.ensures.cases.0, c.in-Some.ensures.cases.1) (take-append-drop 64 c.args.bytes.now) in ap later e
+returns-in_default-split_first_chunk_mut-clause-later g c = ap later (halves _ _ _ c.in-Some.ensures.cases.0 c.in-Some.ensures.cases.1)
 
 pub returns-clause-later : goal.returns-clause-later
 returns-clause-later g c =
