@@ -1,8 +1,8 @@
-use Rattle.std.proofs.Common.{◌≡◌, sym, ◌∙◌, rules}
-use Rattle.model.specs.Placements.{item_at}
+use Rattle.std.proofs.Common.{rules}
+use Rattle.sheet.specs.Tables.{Sound}
 use Rattle.sheet.proofs.table.PlaceTable.item_at.Goals as goal
 
 pub returns-clause-small : goal.returns-clause-small
 returns-clause-small c i e =
-    let found : c.flatten.result ≡ item_at c.args.self.now c.args.place = search rules in
-    c.placement.ensures.sound.small c.args.place i (sym found ∙ e)
+    let sound : Sound c.args.self.now = search rules in
+    sound.small c.args.place i (search rules)
